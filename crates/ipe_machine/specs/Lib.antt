@@ -1,0 +1,5 @@
+pub mod Refusals
+pub mod Policies
+pub mod Answer
+pub mod Machine
+pub mod Run

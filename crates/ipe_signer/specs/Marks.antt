@@ -1,0 +1,27 @@
+-- What a list of marks says of a digest.
+use Rattle.std.specs.Prelude.{ℕ, ◌==◌, ◌&&◌, Bool, List, reverse}
+use Rattle.std.specs.List.{find}
+use Rattle.std.specs.Option.{option_map_or}
+use Rattle.ipe_policy.specs.Words.{is_text}
+use Rattle.ipe_signer.specs.declared.signer.Purpose.{Purpose}
+use Rattle.ipe_signer.specs.declared.signer.Purpose.TheVariants.{Policy, Root, File}
+use Rattle.ipe_signer.specs.declared.signer.Verdict.{Verdict}
+use Rattle.ipe_signer.specs.declared.signer.Verdict.TheVariants.{Unknown}
+use Rattle.ipe_signer.specs.declared.trust_list.Mark.{Mark}
+
+-- the place of a purpose in their order, from 0
+abbrev pub purpose_number : Purpose → ℕ
+purpose_number Policy = 0
+purpose_number Root = 1
+purpose_number File = 2
+
+abbrev pub same_purpose : Purpose → Purpose → Bool
+same_purpose a b = purpose_number a == purpose_number b
+
+-- a mark is of this purpose and digest
+abbrev pub is_about : Purpose → List ℕ → Mark → Bool
+is_about purpose digest mark = same_purpose purpose mark.purpose && is_text digest mark.digest
+
+-- the last mark of a purpose and digest decides; without one nothing is known
+abbrev pub last_verdict : List Mark → Purpose → List ℕ → Verdict
+last_verdict marks purpose digest = option_map_or (λ (mark : Mark). mark.verdict) (find (is_about purpose digest) (reverse marks)) Unknown
