@@ -1,4 +1,3 @@
-pub mod Faults
-pub mod Taking
-pub mod Offering
 pub mod Decimals
+pub mod Offering
+pub mod Taking

@@ -1,6 +1,6 @@
 -- What a loop of writes has put into a sink so far.
-use Rattle.std.proofs.Common.{◌≡◌, ℕ, ◌+◌, ◌-◌, ◌<◌, ◌≤◌, List, [], ◌++◌, length, take, drop, Option, None, Some, IfSome, refl, sym, ap, ◌∙◌, subst, arith, length-append, append_assoc}
-use Rattle.std.proofs.lemmas.List.{take-append-drop, append-nil}
+use Rattle.std.proofs.Common.{◌≡◌, ℕ, ◌+◌, ◌≤◌, List, ◌++◌, length, take, drop, Option, None, Some, ap, ◌∙◌, subst, arith, length-append, append_assoc}
+use Rattle.std.proofs.lemmas.List.{take-append-drop}
 use Rattle.std.proofs.Math.Seq.{take-append-add}
 use Rattle.ipe_words.specs.Sink.{Appends, AppendsPrefix}
 
@@ -8,13 +8,7 @@ use Rattle.ipe_words.specs.Sink.{Appends, AppendsPrefix}
 abbrev pub Wrote : Option (List ℕ) → Option (List ℕ) → List ℕ → List ℕ → Type 0
 Wrote before now all rest = (front : List ℕ) × (all ≡ front ++ rest) × Appends before now front
 
-Appends-none : (before : Option (List ℕ)) → Appends before before []
-Appends-none None = tt
-Appends-none (Some text) = ap Some (sym (append-nil text))
-
-pub Wrote-none : (before : Option (List ℕ)) (all : List ℕ) → Wrote before before all all
-Wrote-none before all = ([], refl, Appends-none before)
-
+-- what the clauses say once it is known what was written
 known : (now next : Option (List ℕ)) (text bytes : List ℕ) → now ≡ Some text → Appends now next bytes → next ≡ Some (text ++ bytes)
 known now next text bytes e a = let P : Option (List ℕ) → Type 0 = λ o. Appends o next bytes in subst P e a
 
@@ -23,6 +17,7 @@ Appends-twice None now next front part a b = tt
 Appends-twice (Some text) now next front part a b =
     known now next (text ++ front) part a b ∙ ap Some (append_assoc text front part)
 
+-- a call that took n bytes leaves the rest behind them
 pub Wrote-more : (before now next : Option (List ℕ)) (all rest : List ℕ) (n : ℕ) → Wrote before now all rest → Appends now next (take n rest) → Wrote before next all (drop n rest)
 Wrote-more before now next all rest n wrote a =
     let front : List ℕ = wrote.0 in
@@ -31,16 +26,10 @@ Wrote-more before now next all rest n wrote a =
     let regroup : (front ++ take n rest) ++ drop n rest ≡ front ++ (take n rest ++ drop n rest) = append_assoc front (take n rest) (drop n rest) in
     (front ++ take n rest, cc, Appends-twice before now next front (take n rest) wrote.2 a)
 
-pub Appends-from_wrote : (before now : Option (List ℕ)) (all rest : List ℕ) → Wrote before now all rest → rest ≡ [] → Appends before now all
-Appends-from_wrote before now all rest wrote empty =
-    let is : all ≡ wrote.0 ++ rest = wrote.1 in
-    let end : wrote.0 ++ [] ≡ wrote.0 = append-nil wrote.0 in
-    let same : wrote.0 ≡ all = cc in
-    let P : List ℕ → Type 0 = λ bytes. Appends before now bytes in subst P same wrote.2
-
 known_prefix : (now next : Option (List ℕ)) (text bytes : List ℕ) → now ≡ Some text → AppendsPrefix now next bytes → (k : ℕ) × (k ≤ length bytes) × (next ≡ Some (text ++ take k bytes))
 known_prefix now next text bytes e a = let P : Option (List ℕ) → Type 0 = λ o. AppendsPrefix o next bytes in subst P e a
 
+-- a call that failed after some bytes leaves a front of all
 pub AppendsPrefix-from_wrote : (before now next : Option (List ℕ)) (all rest : List ℕ) → Wrote before now all rest → AppendsPrefix now next rest → AppendsPrefix before next all
 AppendsPrefix-from_wrote None now next all rest wrote a = tt
 AppendsPrefix-from_wrote (Some text) now next all rest wrote a =

@@ -1,6 +1,7 @@
 -- Sources and sinks over memory, with a plan of the calls that fail.
-use Rattle.std.specs.Prelude.{ℕ, ◌+◌, ◌-◌, ◌^◌, Bool, ◌||◌, ◌&&◌, nat_le, nat_lt, min, List, length, ◌==◌}
+use Rattle.std.specs.Prelude.{ℕ, ◌-◌, Bool, ◌||◌, ◌&&◌, nat_le, nat_lt, min, List, length, ◌==◌}
 use Rattle.std.specs.List.{list_any}
+use Rattle.ipe_words.specs.Count.{counted}
 
 -- a source: what is left, the most that a call gives, the numbers of the calls that fail, the calls and the faults so far
 pub record Supply : Type 0 where
@@ -18,10 +19,6 @@ pub record Store : Type 0 where
   pub plan : List ℕ
   pub calls : ℕ
   pub faults : ℕ
-
--- a count after one more; at the end of its type, 2^64 - 1, it stands still
-abbrev pub counted : ℕ → ℕ
-counted count = min (count + 1) (2 ^ 64 - 1)
 
 -- the call of this number is planned to fail
 abbrev pub is_planned : List ℕ → ℕ → Bool

@@ -1,8 +1,8 @@
-ghost use Rattle.std.specs.Prelude.{◌≡◌, ◌<◌, ◌≤◌, ℕ, List, [], ◌++◌, length, take, drop, Some, Option, is_err, IfOk, OnOk, OnErr};
-ghost use Rattle.ipe_words.specs.Count.{Rose};
+ghost use Rattle.std.specs.Prelude.{◌≡◌, ◌<◌, ◌≤◌, [], ◌++◌, length, take, drop, Some, is_err, IfOk, OnErr};
+ghost use Rattle.ipe_words.specs.Count.{Rose, counted};
 ghost use Rattle.ipe_words.specs.Source.{GivesTold};
 ghost use Rattle.ipe_words.specs.Sink.{Appends, AppendsPrefix};
-ghost use Rattle.ipe_words.specs.Memory.{Supply, Store, counted, is_planned, read_fails, write_fails, given_count, taken_count};
+ghost use Rattle.ipe_words.specs.Memory.{is_planned, read_fails, write_fails, given_count, taken_count};
 
 use super::{Failed, Sink, Source};
 use std::alloc::{AllocError, Global};
@@ -26,11 +26,11 @@ impl Model for MemorySource {
     ghost Value = { Supply };
 
     ghost view = { λ s. record {
-        left = drop s.given s.bytes.items;
-        piece = s.piece;
-        plan = s.plan.items;
-        calls = s.calls;
-        faults = s.faults;
+      left = drop s.given s.bytes.items;
+      piece = s.piece;
+      plan = s.plan.items;
+      calls = s.calls;
+      faults = s.faults;
     } };
 
     ghost invariant = { λ s. (s.given ≤ vec_len s.bytes) × (1 ≤ s.piece) };
@@ -71,8 +71,8 @@ impl Source for MemorySource {
         ensures after { IfOk result (λ n.
             self.new ≡ record self.old { left = drop n self.old.left; calls = counted self.old.calls }) }
         ensures after_failed { OnErr result (self.new ≡ record self.old {
-            calls = counted self.old.calls;
-            faults = counted self.old.faults;
+          calls = counted self.old.calls;
+          faults = counted self.old.faults;
         }) }
         ensures buffer { IfOk result (λ n. buf.new ≡ take n self.old.left ++ drop n buf.old) }
         ensures untouched { OnErr result (buf.new ≡ buf.old) }
@@ -108,12 +108,12 @@ impl Model for MemorySink {
     ghost Value = { Store };
 
     ghost view = { λ s. record {
-        written = s.bytes.items;
-        room = s.room;
-        piece = s.piece;
-        plan = s.plan.items;
-        calls = s.calls;
-        faults = s.faults;
+      written = s.bytes.items;
+      room = s.room;
+      piece = s.piece;
+      plan = s.plan.items;
+      calls = s.calls;
+      faults = s.faults;
     } };
 
     ghost invariant = { λ s. (vec_len s.bytes ≤ s.room) × (s.room ≤ vec_capacity s.bytes) × (1 ≤ s.piece) };
@@ -122,15 +122,20 @@ impl Model for MemorySink {
 impl MemorySink {
     /// An empty sink with room for `room` bytes, which it reserves. A call takes at most `piece` of them. The calls
     /// with a number in `plan` fail: the first has the number 1.
-    pub fn new(alloc: Global, piece: usize, room: usize, plan: Vec<u32>) -> Result<MemorySink, AllocError>
+    pub fn new(
+        alloc: Global,
+        piece: usize,
+        room: usize,
+        plan: Vec<u32>,
+    ) -> Result<MemorySink, AllocError>
         requires { 1 ≤ piece }
         ensures { IfOk result (λ sink. sink ≡ record {
-            written = [];
-            room = room;
-            piece = piece;
-            plan = plan.items;
-            calls = 0;
-            faults = 0;
+          written = [];
+          room = room;
+          piece = piece;
+          plan = plan.items;
+          calls = 0;
+          faults = 0;
         }) }
     {
         let bytes = Vec::with_capacity(alloc, room)?;
@@ -169,12 +174,12 @@ impl Sink for MemorySink {
         ensures fails { is_err result ≡ write_fails self.old buf.now }
         ensures count { IfOk result (λ n. n ≡ taken_count self.old (length buf.now)) }
         ensures after { IfOk result (λ n. self.new ≡ record self.old {
-            written = self.old.written ++ take n buf.now;
-            calls = counted self.old.calls;
+          written = self.old.written ++ take n buf.now;
+          calls = counted self.old.calls;
         }) }
         ensures after_failed { OnErr result (self.new ≡ record self.old {
-            calls = counted self.old.calls;
-            faults = counted self.old.faults;
+          calls = counted self.old.calls;
+          faults = counted self.old.faults;
         }) }
     {
         self.calls = self.calls.saturating_add(1);

@@ -9,7 +9,7 @@ pub trait Sink {
     /// The bytes that are written, where the sink tells them.
     ghost written: { Self → Option (List ℕ) };
 
-    /// How many calls have failed.
+    /// How many calls have failed. The count stands still at 2^64 - 1.
     ghost faults: { Self → ℕ };
 
     /// Takes some first bytes of `buf`, and says how many: at least one of a piece that isn't empty.

@@ -1,8 +1,8 @@
-ghost use Rattle.std.specs.Prelude.{◌≡◌, ◌<◌, ◌≤◌, ◌-◌, ◌+◌, ℕ, List, Option, length, vec_len, IfOk, OnErr, OnOk, IfSome, IsErrOf, IfErr};
+ghost use Rattle.std.specs.Prelude.{◌≡◌, ◌<◌, ◌≤◌, ℕ, List, Option, length, vec_len, IfOk, OnErr, IfSome, IsErrOf};
 ghost use Rattle.ipe_words.specs.Count.{Rose};
 ghost use Rattle.ipe_words.specs.Source.{GivesTold, TakesAll};
 
-use std::alloc::{AllocError, AllocFailed, Global};
+use std::alloc::Global;
 use thiserror::Error;
 
 /// A call on a source or a sink failed, and was counted there.
@@ -14,7 +14,7 @@ pub trait Source {
     /// The bytes that are left, where the source tells them.
     ghost remaining: { Self → Option (List ℕ) };
 
-    /// How many calls have failed.
+    /// How many calls have failed. The count stands still at 2^64 - 1.
     ghost faults: { Self → ℕ };
 
     /// Gives the next bytes into the front of `buf`, and says how many. 0 for a buffer that isn't empty is the end.
@@ -58,6 +58,8 @@ pub fn read_all<S: Source>(alloc: Global, src: &mut S, limit: u64) -> Result<Vec
         if limit - (bytes.len() as u64) < given as u64 {
             return Err(ReadAllError::TooLong { limit });
         }
-        bytes.extend_from_slice(&chunk[..given]).map_err(|_| ReadAllError::NoMemory)?;
+        bytes
+            .extend_from_slice(&chunk[..given])
+            .map_err(|_| ReadAllError::NoMemory)?;
     }
 }

@@ -97,6 +97,10 @@ fn a_writer_of_std_is_a_sink(rt: HostRuntime) -> Result<(), Fail> {
     assert_eq!(rt; written.as_slice(), b"text".as_slice());
     let mut room = [0u8; 2];
     let outcome = write_all(&mut StdSink::new(room.as_mut_slice()), b"text");
-    assert_eq!(rt; outcome, Err(Failed), "the slice takes two bytes, and then none");
+    assert_eq!(rt;
+        outcome,
+        Err(Failed),
+        "the slice takes two bytes, and then none"
+    );
     Ok(())
 }

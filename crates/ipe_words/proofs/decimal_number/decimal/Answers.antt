@@ -1,7 +1,6 @@
-use Rattle.std.proofs.Common.{◌≡◌, ◌≤◌, ◌<◌, ◌^◌, ◌+◌, ◌-◌, ◌*◌, ℕ, List, length, get_or, take, subst, arith, rules}
+use Rattle.std.proofs.Common.{◌≡◌, ◌<◌, ℕ, List, length, get_or, take, subst, arith}
 use Rattle.std.proofs.lemmas.Grind.{common_steps}
-use Rattle.std.specs.Fmt.{decimal as decimal_text}
-use Rattle.std.specs.Str.Parse.{AllDigits, digits_value}
+use Rattle.std.specs.Str.Parse.{AllDigits}
 use Rattle.ipe_words.proofs.Decimals.{nonempty-from_decimal, plain-from_decimal, Continues, Continues-from_decimal, Longer, Longer-from_digit, decimal-from_digits}
 use Rattle.ipe_words.proofs.decimal_number.decimal.Goals as goal
 use Rattle.ipe_words.proofs.decimal_number.decimal.Goals.{else-bytes-eq48-via-then-bytes-eq48+else-bytes-gt1, else-bytes-eq48-via-else-bytes-eq48}
@@ -31,7 +30,7 @@ returns-clause-found c =
     let digits : AllDigits 10 c.args.bytes.now = subst P whole c.loop-byte.invariant.digits in
     let some : 0 < length c.args.bytes.now = grind arith in
     let plain : get_or c.args.bytes.now 0 0 ≡ 48 → length c.args.bytes.now ≡ 1 = elim c.else-bytes-eq48.branch [
-        else-bytes-eq48-via-then-bytes-eq48+else-bytes-gt1 w ↦ λ lead. omega arith
+      | else-bytes-eq48-via-then-bytes-eq48+else-bytes-gt1 w ↦ λ lead. omega arith
       | else-bytes-eq48-via-else-bytes-eq48 w ↦ λ lead. grind arith
-      ] in
+    ] in
     (decimal-from_digits c.args.bytes.now c.loop-byte.value digits (rw whole at c.loop-byte.invariant.value) (omega arith) some plain, c.loop-byte.invariant.within)

@@ -5,7 +5,7 @@ use Rattle.ipe_words.proofs.decimal_number.decimal.Given as goal
 -- the bytes so far are digits, and write the value
 abbrev pub invariant-loop-byte : goal.invariant-loop-byte
 invariant-loop-byte l = record {
-    digits : AllDigits 10 (take l.byte-index l.bytes);
-    value : l.value ≡ digits_value 10 (take l.byte-index l.bytes);
-    within : l.value ≤ l.max;
-  }
+  digits : AllDigits 10 (take l.byte-index l.bytes);
+  value : l.value ≡ digits_value 10 (take l.byte-index l.bytes);
+  within : l.value ≤ l.max;
+}

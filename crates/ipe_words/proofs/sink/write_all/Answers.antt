@@ -1,6 +1,6 @@
-use Rattle.std.proofs.Common.{◌≤◌, length, arith}
+use Rattle.std.proofs.Common.{arith}
 use Rattle.std.proofs.lemmas.Grind.{common_steps}
-use Rattle.ipe_words.proofs.Offering.{Wrote, Wrote-more, AppendsPrefix-from_wrote}
+use Rattle.ipe_words.proofs.Offering.{Wrote-more, AppendsPrefix-from_wrote}
 use Rattle.ipe_words.proofs.sink.write_all.Goals as goal
 
 pub returns-in_err-taken-clause-prefix : goal.returns-in_err-taken-clause-prefix
