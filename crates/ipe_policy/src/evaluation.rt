@@ -105,6 +105,7 @@ fn first_match(items: &[Statement], op: Op, context: &Context) -> Option<(u32, A
     ensures { result ≡ option_map (λ rule. (rule.0, rule.1.action)) (first_match items.now op context.now) }
 {
     let mut number: u32 = 0;
+    let mut found = None;
     for item in items {
         if let Statement::Rule {
             op: of,
@@ -114,11 +115,12 @@ fn first_match(items: &[Statement], op: Op, context: &Context) -> Option<(u32, A
         {
             number += 1;
             if matches(*of, props, op, context) {
-                return Some((number, *action));
+                found = Some((number, *action));
+                break;
             }
         }
     }
-    None
+    found
 }
 
 fn op_default_of(item: &Statement, op: Op) -> Option<Action>

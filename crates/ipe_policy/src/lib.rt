@@ -23,3 +23,6 @@ pub use spelling::{print, statement_text};
 pub use statement::{Digest, Properties, Property, Statement};
 pub use version::Version;
 pub use words::{AlgName, Comm, DevName, DigestBytes, Name, PathName};
+
+#[cfg(test)]
+mod tests;

@@ -4,7 +4,7 @@ use crate::{Action, AlgName, DigestBytes, Op};
 use std::marker::Model;
 
 /// A digest with the name of its algorithm.
-#[derive(Debug, Drop)]
+#[derive(Clone, Debug, PartialEq, Eq, Drop)]
 pub struct Digest {
     pub alg: AlgName,
     pub bytes: DigestBytes,

@@ -122,7 +122,7 @@ fn held<const N: usize>(bytes: &[u8]) -> ArrayVec<u8, N>
 }
 
 /// The name of a hash algorithm: 1 to 16 bytes of `a-z`, `0-9` and `-`.
-#[derive(Debug, Drop)]
+#[derive(Debug, PartialEq, Eq, Drop)]
 pub struct AlgName {
     bytes: ArrayVec<u8, 16>,
 }
@@ -133,6 +133,8 @@ impl Model for AlgName {
     ghost view = { λ s. s.bytes.items };
 
     ghost invariant = { λ s. IsTrue (is_alg_name s.bytes.items) };
+
+    ghost inverse = { λ bytes. record { bytes = record { items = bytes } } };
 }
 
 impl Clone for AlgName {
@@ -168,7 +170,7 @@ impl AlgName {
 }
 
 /// A digest: 0 to 64 bytes.
-#[derive(Debug, Drop)]
+#[derive(Debug, PartialEq, Eq, Drop)]
 pub struct DigestBytes {
     bytes: ArrayVec<u8, 64>,
 }
@@ -179,6 +181,8 @@ impl Model for DigestBytes {
     ghost view = { λ s. s.bytes.items };
 
     ghost invariant = { λ s. IsTrue (is_digest s.bytes.items) };
+
+    ghost inverse = { λ bytes. record { bytes = record { items = bytes } } };
 }
 
 impl Clone for DigestBytes {
@@ -214,7 +218,7 @@ impl DigestBytes {
 }
 
 /// A policy's name: 1 to 255 visible ASCII bytes without `/`, `"` and `#`, and neither `.` nor `..`.
-#[derive(Debug, Drop)]
+#[derive(Debug, PartialEq, Eq, Drop)]
 pub struct Name {
     bytes: ArrayVec<u8, 255>,
 }
@@ -225,6 +229,8 @@ impl Model for Name {
     ghost view = { λ s. s.bytes.items };
 
     ghost invariant = { λ s. IsTrue (is_name s.bytes.items) };
+
+    ghost inverse = { λ bytes. record { bytes = record { items = bytes } } };
 }
 
 impl Clone for Name {
@@ -260,7 +266,7 @@ impl Name {
 }
 
 /// The name of a task: 1 to 15 visible ASCII bytes without `"`.
-#[derive(Debug, Drop)]
+#[derive(Debug, PartialEq, Eq, Drop)]
 pub struct Comm {
     bytes: ArrayVec<u8, 15>,
 }
@@ -271,6 +277,8 @@ impl Model for Comm {
     ghost view = { λ s. s.bytes.items };
 
     ghost invariant = { λ s. IsTrue (is_comm s.bytes.items) };
+
+    ghost inverse = { λ bytes. record { bytes = record { items = bytes } } };
 }
 
 impl Clone for Comm {
@@ -306,7 +314,7 @@ impl Comm {
 }
 
 /// The path of a file: `/`, and then at most 254 visible ASCII bytes without `"`.
-#[derive(Debug, Drop)]
+#[derive(Debug, PartialEq, Eq, Drop)]
 pub struct PathName {
     bytes: ArrayVec<u8, 255>,
 }
@@ -317,6 +325,8 @@ impl Model for PathName {
     ghost view = { λ s. s.bytes.items };
 
     ghost invariant = { λ s. IsTrue (is_path s.bytes.items) };
+
+    ghost inverse = { λ bytes. record { bytes = record { items = bytes } } };
 }
 
 impl Clone for PathName {
@@ -352,7 +362,7 @@ impl PathName {
 }
 
 /// The name of a device, or another short name: 1 to 32 bytes of `a-z`, `0-9`, `_` and `-`.
-#[derive(Debug, Drop)]
+#[derive(Debug, PartialEq, Eq, Drop)]
 pub struct DevName {
     bytes: ArrayVec<u8, 32>,
 }
@@ -363,6 +373,8 @@ impl Model for DevName {
     ghost view = { λ s. s.bytes.items };
 
     ghost invariant = { λ s. IsTrue (is_dev_name s.bytes.items) };
+
+    ghost inverse = { λ bytes. record { bytes = record { items = bytes } } };
 }
 
 impl Clone for DevName {

@@ -1,0 +1,6 @@
+//! The lines of a transcript.
+#![tactic(auto)]
+
+mod transcript;
+
+pub use transcript::print_reply;
