@@ -1,0 +1,4 @@
+pub mod Properties
+pub mod HeaderLemmas
+pub mod DraftLemmas
+pub mod SpokenLemmas

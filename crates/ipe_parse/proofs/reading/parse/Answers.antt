@@ -1,0 +1,15 @@
+use Rattle.std.proofs.Common.{◌≡◌, ◌≤◌, map, filter, length, ap, ◌∙◌, arith}
+use Rattle.ipe_lex.specs.Lines.{lines_of, placed_lines}
+use Rattle.ipe_parse.proofs.SpokenLemmas.{placed_lines-few, spoken_lines-placed}
+use Rattle.ipe_parse.specs.Reading.{Gives, is_spoken, reading, reading_of_lines}
+use Rattle.ipe_parse.specs.Walk.{spoken_of}
+use Rattle.ipe_parse.proofs.reading.parse.Goals as goal
+
+pub read_lines-requires : goal.read_lines-requires
+read_lines-requires c = rw c.lines.ensures (omega (arith, placed_lines-few c.args.text.now, c.requires))
+
+pub returns : goal.returns
+unfolding reading
+returns c =
+    let same = ap (λ left. filter is_spoken (map spoken_of left)) c.lines.ensures ∙ spoken_lines-placed c.args.text.now in
+    rw same at c.read_lines.ensures

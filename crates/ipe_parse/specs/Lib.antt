@@ -1,0 +1,6 @@
+pub mod Tokens
+pub mod Lines
+pub mod Defaults
+pub mod Given
+pub mod Reading
+pub mod Walk

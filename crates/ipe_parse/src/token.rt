@@ -1,0 +1,152 @@
+ghost use Rattle.std.specs.Prelude.{◌≡◌, Some, None, length, drop, position, if◌then◌else◌, ◌==◌};
+ghost use Rattle.std.specs.Option.{option_copied};
+ghost use Rattle.std.specs.List.{after_first, before_first};
+ghost use Rattle.ipe_policy.specs.Words.{is_text};
+ghost use Rattle.ipe_parse.specs.Tokens.{action_named, begins, digest_of, digest_property_of, hex_bytes, is_colon, op_named, op_of, property_of, truth_property_of};
+
+use crate::BadKind;
+use ipe_policy::{Action, AlgName, Digest, DigestBytes, Op, Property};
+
+pub(crate) fn is_text(text: &[u8], bytes: &[u8]) -> bool
+    ensures { result ≡ is_text text.now bytes.now }
+{
+    bytes == text
+}
+
+// What stands behind a prefix of a token.
+pub(crate) fn behind<'a>(prefix: &[u8], token: &'a [u8]) -> Option<&'a [u8]>
+    ensures { option_copied result
+        ≡ (if begins prefix.now token.now then Some (drop (length prefix.now) token.now) else None) }
+{
+    token.strip_prefix(prefix)
+}
+
+pub(crate) fn op_named(word: &[u8]) -> Option<Op>
+    ensures { result ≡ op_named word.now }
+{
+    if is_text(b"EXECUTE", word) {
+        return Some(Op::Execute);
+    }
+    if is_text(b"FIRMWARE", word) {
+        return Some(Op::Firmware);
+    }
+    if is_text(b"KMODULE", word) {
+        return Some(Op::Kmodule);
+    }
+    if is_text(b"KEXEC_IMAGE", word) {
+        return Some(Op::KexecImage);
+    }
+    if is_text(b"KEXEC_INITRAMFS", word) {
+        return Some(Op::KexecInitramfs);
+    }
+    if is_text(b"POLICY", word) {
+        return Some(Op::Policy);
+    }
+    if is_text(b"X509_CERT", word) {
+        return Some(Op::X509Cert);
+    }
+    None
+}
+
+pub(crate) fn op_of(token: &[u8]) -> Option<Op>
+    ensures { result ≡ op_of token.now }
+{
+    op_named(behind(b"op=", token)?)
+}
+
+pub(crate) fn action_named(token: &[u8]) -> Option<Action>
+    ensures { result ≡ action_named token.now }
+{
+    if is_text(b"action=ALLOW", token) {
+        return Some(Action::Allow);
+    }
+    if is_text(b"action=DENY", token) {
+        return Some(Action::Deny);
+    }
+    None
+}
+
+fn first_colon(word: &[u8]) -> Option<usize>
+    ensures { result ≡ position is_colon word.now }
+{
+    word.iter().position(|byte| *byte == b':')
+}
+
+// The bytes before the first colon, and those after it.
+fn cut_at_colon(word: &[u8]) -> (&[u8], &[u8])
+    ensures before { result.0.now ≡ before_first is_colon word.now }
+    ensures after { result.1.now ≡ after_first is_colon word.now }
+{
+    match first_colon(word) {
+        Some(at) => (&word[..at], &word[at + 1..]),
+        None => (word, &[]),
+    }
+}
+
+fn hex_bytes(digits: &[u8]) -> Option<DigestBytes>
+    ensures { result ≡ hex_bytes digits.now }
+{
+    if digits.len() < 2 || digits.len() > 128 {
+        return None;
+    }
+    let mut buffer = [0u8; 64];
+    let bytes = &mut buffer[..digits.len() / 2];
+    hex::decode_to_slice(digits, bytes).ok()?;
+    DigestBytes::read(bytes)
+}
+
+fn digest_of(word: &[u8]) -> Option<Digest>
+    ensures { result ≡ digest_of word.now }
+{
+    let (alg, digits) = cut_at_colon(word);
+    let alg = AlgName::read(alg)?;
+    let bytes = hex_bytes(digits)?;
+    Some(Digest { alg, bytes })
+}
+
+fn truth_property_of(token: &[u8]) -> Option<Property>
+    ensures { result ≡ truth_property_of token.now }
+{
+    if is_text(b"boot_verified=TRUE", token) {
+        return Some(Property::BootVerified(true));
+    }
+    if is_text(b"boot_verified=FALSE", token) {
+        return Some(Property::BootVerified(false));
+    }
+    if is_text(b"dmverity_signature=TRUE", token) {
+        return Some(Property::DmveritySignature(true));
+    }
+    if is_text(b"dmverity_signature=FALSE", token) {
+        return Some(Property::DmveritySignature(false));
+    }
+    if is_text(b"fsverity_signature=TRUE", token) {
+        return Some(Property::FsveritySignature(true));
+    }
+    if is_text(b"fsverity_signature=FALSE", token) {
+        return Some(Property::FsveritySignature(false));
+    }
+    None
+}
+
+fn digest_property_of(token: &[u8]) -> Result<Property, BadKind>
+    ensures { result ≡ digest_property_of token.now }
+{
+    if let Some(word) = behind(b"dmverity_roothash=", token) {
+        let digest = digest_of(word).ok_or(BadKind::BadDigest)?;
+        return Ok(Property::DmverityRoothash(digest));
+    }
+    if let Some(word) = behind(b"fsverity_digest=", token) {
+        let digest = digest_of(word).ok_or(BadKind::BadDigest)?;
+        return Ok(Property::FsverityDigest(digest));
+    }
+    Err(BadKind::BadProperty)
+}
+
+pub(crate) fn property_of(token: &[u8]) -> Result<Property, BadKind>
+    ensures { result ≡ property_of token.now }
+{
+    match truth_property_of(token) {
+        Some(property) => Ok(property),
+        None => digest_property_of(token),
+    }
+}

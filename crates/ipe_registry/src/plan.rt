@@ -1,0 +1,300 @@
+ghost use Rattle.std.specs.Prelude.{◌≡◌, ◌<◌, ◌^◌, IfOk, OnErr, IsTrue, length};
+ghost use Rattle.sha2.specs.Sha256.{sha256};
+ghost use Rattle.ipe_parse.specs.Reading.{reading};
+ghost use Rattle.ipe_machine.specs.Policies.{place_of, is_active, active_entry};
+ghost use Rattle.ipe_machine.specs.Answer.{load_answer, update_answer, activate_answer, delete_answer, switch_answer};
+ghost use Rattle.ipe_registry.specs.Change.{IsPlan};
+ghost use Rattle.ipe_registry.specs.Parts.{IsPlanOf, IsTaken, load_by, update_by, activation_by, version_at, standing_against};
+
+use crate::change::Step;
+use crate::registry::{MOST_LOADED, place_of};
+use crate::{Change, Entry, Plan, Registry};
+use ipe_machine::{Act, Command, Done, Refusal, Text, Value};
+use ipe_parse::{BadText, ParseError, parse};
+use ipe_policy::{Name, Policy, Version, image_words};
+use ipe_signer::{Purpose, Signer, Verdict};
+use sha2::{Digest, Sha256};
+use std::alloc::{AllocError, Global};
+
+/// The most bytes of a policy's text, and the most words of its image.
+const MOST_TEXT: usize = 1_048_576;
+
+const MOST_WORDS: u64 = 4096;
+
+const LAST_EPOCH: u16 = u16::MAX;
+
+// The policy that a text brings with the text's digest, or the first refusal that the text alone meets.
+fn taken<S: Signer>(
+    alloc: Global,
+    signer: &S,
+    text: &[u8],
+) -> Result<Result<(Policy, [u8; 32]), Refusal>, AllocError>
+    ensures { IfOk result (IsTaken (S.verdict_of signer.now) text.now) }
+{
+    if text.len() > MOST_TEXT {
+        return Ok(Err(Refusal::TooBig));
+    }
+    let digest = Sha256::digest(text);
+    match signer.verdict(Purpose::Policy, &digest) {
+        Verdict::Revoked => return Ok(Err(Refusal::Rejected)),
+        Verdict::Unknown => return Ok(Err(Refusal::NoKey)),
+        Verdict::Trusted => {}
+    }
+    match parse(alloc, text) {
+        Ok(policy) => {
+            let words = image_words(&policy);
+            if words > MOST_WORDS {
+                return Ok(Err(Refusal::TooWide { words }));
+            }
+            Ok(Ok((policy, digest)))
+        }
+        Err(ParseError::Bad { line, kind }) => {
+            Ok(Err(Refusal::BadPolicy(BadText::Bad { line, kind })))
+        }
+        Err(ParseError::NoDefault { missing }) => {
+            Ok(Err(Refusal::BadPolicy(BadText::NoDefault { missing })))
+        }
+        Err(ParseError::NoMemory) => Err(AllocError),
+    }
+}
+
+// The version of the entry at a place.
+fn version_at(entries: &[Entry], place: usize) -> Version
+    requires { place < length entries.now }
+    ensures { result ≡ version_at entries.now place }
+{
+    let entry = &entries[place];
+    entry.version
+}
+
+fn ready(step: Step) -> Plan
+    ensures { result ≡ Plan.Ready (record { step = step }) }
+{
+    Plan::Ready(Change { step })
+}
+
+impl Registry {
+    /// What a command comes to on the policies as they are. Nothing is changed. Memory may run out at a command of one who
+    /// may administer.
+    #[tactic(auto, using(crate::proofs::Plans::planned, crate::proofs::Plans::planned_ok))]
+    pub fn plan<S: Signer>(
+        &self,
+        alloc: Global,
+        signer: &S,
+        command: &Command,
+    ) -> Result<Plan, AllocError>
+        requires { self.now.next < 2 ^ 63 }
+        ensures plan { IfOk result (IsPlan (S.verdict_of signer.now) self.now command.now) }
+        ensures memory { OnErr result (IsTrue command.now.may) }
+    {
+        if !command.may {
+            return Ok(Plan::Refused(Refusal::NotPermitted));
+        }
+        match &command.act {
+            Act::Load(text) => self.plan_load(alloc, signer, text),
+            Act::Update(name, text) => self.plan_update(alloc, signer, name, text),
+            Act::Activate(name, wanted) => self.plan_activation(name, *wanted),
+            Act::Delete(name, wanted) => Ok(self.plan_deletion(name, *wanted)),
+            Act::Enforce(wanted) => Ok(self.plan_enforce(*wanted)),
+            Act::SuccessAudit(wanted) => Ok(self.plan_success(*wanted)),
+        }
+    }
+
+    fn is_active(&self, name: &[u8]) -> bool
+        ensures { result ≡ is_active name.now self.now }
+    {
+        match &self.active {
+            Some(active) => active.as_slice() == name,
+            None => false,
+        }
+    }
+
+    #[tactic(auto, using(crate::proofs::Plans::load_refused, crate::proofs::Plans::load_taken))]
+    fn plan_load<S: Signer>(
+        &self,
+        alloc: Global,
+        signer: &S,
+        text: &Text,
+    ) -> Result<Plan, AllocError>
+        requires { self.now.next < 2 ^ 63 }
+        ensures { IfOk result (IsPlanOf self.now (Act.Load text.now) (load_answer (S.verdict_of signer.now) self.now text.now)) }
+    {
+        match taken(alloc, signer, text.as_slice())? {
+            Ok(brought) => {
+                let (policy, digest) = brought;
+                self.plan_addition(alloc, text, policy, digest)
+            }
+            Err(refusal) => Ok(Plan::Refused(refusal)),
+        }
+    }
+
+    // The rest of a load, of a text that brings this policy.
+    fn plan_addition(
+        &self,
+        alloc: Global,
+        text: &Text,
+        policy: Policy,
+        digest: [u8; 32],
+    ) -> Result<Plan, AllocError>
+        requires serial { self.now.next < 2 ^ 63 }
+        requires digest { digest ≡ sha256 text.now }
+        requires policy { reading text.now ≡ Ok policy }
+        ensures { IfOk result (IsPlanOf self.now (Act.Load text.now) (load_by self.now policy)) }
+    {
+        if place_of(&self.entries, policy.name.as_slice()).is_some() {
+            return Ok(Plan::Refused(Refusal::Exists));
+        }
+        if self.entries.len() >= MOST_LOADED {
+            return Ok(Plan::Refused(Refusal::NoSpace));
+        }
+        let entry = Entry::new(alloc, self.next, text.as_slice(), digest, policy)?;
+        Ok(ready(Step::Add(entry)))
+    }
+
+    #[tactic(auto, using(crate::proofs::Plans::update_refused, crate::proofs::Plans::update_taken))]
+    fn plan_update<S: Signer>(
+        &self,
+        alloc: Global,
+        signer: &S,
+        name: &Name,
+        text: &Text,
+    ) -> Result<Plan, AllocError>
+        requires { self.now.next < 2 ^ 63 }
+        ensures { IfOk result (IsPlanOf self.now (Act.Update name.now text.now) (update_answer (S.verdict_of signer.now) self.now name.now text.now)) }
+    {
+        let Some(place) = place_of(&self.entries, name.as_slice()) else {
+            return Ok(Plan::Refused(Refusal::NoEntry));
+        };
+        match taken(alloc, signer, text.as_slice())? {
+            Ok(brought) => {
+                let (policy, digest) = brought;
+                self.plan_replacement(alloc, name, place, text, policy, digest)
+            }
+            Err(refusal) => Ok(Plan::Refused(refusal)),
+        }
+    }
+
+    // The rest of an update, of a name that is loaded at this place and a text that brings this policy.
+    fn plan_replacement(
+        &self,
+        alloc: Global,
+        name: &Name,
+        place: usize,
+        text: &Text,
+        policy: Policy,
+        digest: [u8; 32],
+    ) -> Result<Plan, AllocError>
+        requires serial { self.now.next < 2 ^ 63 }
+        requires place { place_of name.now self.now.loaded ≡ Some place }
+        requires within { place < length self.now.loaded }
+        requires digest { digest ≡ sha256 text.now }
+        requires policy { reading text.now ≡ Ok policy }
+        ensures { IfOk result (IsPlanOf self.now (Act.Update name.now text.now) (update_by self.now name.now (version_at self.now.loaded place) policy)) }
+    {
+        if policy.name.as_slice() != name.as_slice() {
+            return Ok(Plan::Refused(Refusal::OtherName));
+        }
+        let present = version_at(&self.entries, place);
+        let offered = policy.version;
+        if offered.packed() < present.packed() {
+            return Ok(Plan::Refused(Refusal::Stale { present, offered }));
+        }
+        let raises = self.is_active(name.as_slice());
+        if raises && self.epoch == LAST_EPOCH {
+            return Ok(Plan::Refused(Refusal::EpochFull));
+        }
+        let entry = Entry::new(alloc, self.next, text.as_slice(), digest, policy)?;
+        Ok(ready(Step::Replace {
+            place,
+            entry,
+            raises,
+        }))
+    }
+
+    #[tactic(auto, using(crate::proofs::Plans::activation_found))]
+    fn plan_activation(&self, name: &Name, wanted: Value) -> Result<Plan, AllocError>
+        ensures { IfOk result (IsPlanOf self.now (Act.Activate name.now wanted) (activate_answer self.now name.now wanted)) }
+    {
+        if wanted != Value::True {
+            return Ok(Plan::Refused(Refusal::BadValue));
+        }
+        match place_of(&self.entries, name.as_slice()) {
+            Some(place) => self.plan_choice(name, version_at(&self.entries, place)),
+            None => Ok(Plan::Refused(Refusal::NoEntry)),
+        }
+    }
+
+    // The rest of an activation, of a name that is loaded at this version.
+    fn plan_choice(&self, name: &Name, offered: Version) -> Result<Plan, AllocError>
+        ensures { IfOk result (IsPlanOf self.now (Act.Activate name.now Value.True) (activation_by self.now name.now offered)) }
+    {
+        if self.is_active(name.as_slice()) {
+            return Ok(Plan::Same(Done::AlreadyActive));
+        }
+        if let Some(present) = self.standing_against(offered) {
+            return Ok(Plan::Refused(Refusal::Stale { present, offered }));
+        }
+        if self.epoch == LAST_EPOCH {
+            return Ok(Plan::Refused(Refusal::EpochFull));
+        }
+        Ok(ready(Step::Activate(name.clone()?)))
+    }
+
+    // The active version, where it is above this one.
+    fn standing_against(&self, offered: Version) -> Option<Version>
+        ensures { result ≡ standing_against (active_entry self.now) offered }
+    {
+        let active = self.active_entry()?;
+        (offered.packed() < active.version.packed()).then_some(active.version)
+    }
+
+    #[tactic(auto, using(crate::proofs::Plans::without_place))]
+    fn plan_deletion(&self, name: &Name, wanted: Value) -> Plan
+        ensures { IsPlanOf self.now (Act.Delete name.now wanted) (delete_answer self.now name.now wanted) result }
+    {
+        if wanted != Value::True {
+            return Plan::Refused(Refusal::BadValue);
+        }
+        let Some(place) = place_of(&self.entries, name.as_slice()) else {
+            return Plan::Refused(Refusal::NoEntry);
+        };
+        if self.is_active(name.as_slice()) {
+            return Plan::Refused(Refusal::IsActive);
+        }
+        ready(Step::Remove { place })
+    }
+
+    fn plan_enforce(&self, wanted: Value) -> Plan
+        ensures { IsPlanOf self.now (Act.Enforce wanted) (switch_answer self.now self.now.enforce wanted) result }
+    {
+        let on = match wanted {
+            Value::True => true,
+            Value::False => false,
+            Value::Bad => return Plan::Refused(Refusal::BadValue),
+        };
+        if on == self.enforce {
+            return Plan::Same(Done::Same);
+        }
+        if self.epoch == LAST_EPOCH {
+            return Plan::Refused(Refusal::EpochFull);
+        }
+        ready(Step::Enforce(on))
+    }
+
+    fn plan_success(&self, wanted: Value) -> Plan
+        ensures { IsPlanOf self.now (Act.SuccessAudit wanted) (switch_answer self.now self.now.success wanted) result }
+    {
+        let on = match wanted {
+            Value::True => true,
+            Value::False => false,
+            Value::Bad => return Plan::Refused(Refusal::BadValue),
+        };
+        if on == self.success {
+            return Plan::Same(Done::Same);
+        }
+        if self.epoch == LAST_EPOCH {
+            return Plan::Refused(Refusal::EpochFull);
+        }
+        ready(Step::SuccessAudit(on))
+    }
+}
