@@ -1,5 +1,5 @@
--- Runs of some events and then of more.
-use Rattle.std.proofs.Common.{◌≡◌, ℕ, ◌+◌, ◌<◌, List, [], ◌∷◌, ◌++◌, length, get_or, take, drop, refl, sym, ap, subst, ◌∙◌}
+-- A run of some first events, on its way through a list.
+use Rattle.std.proofs.Common.{◌≡◌, ℕ, ◌+◌, ◌<◌, List, [], ◌∷◌, ◌++◌, length, get_or, take, drop, sym, ap, subst, ◌∙◌}
 use Rattle.std.proofs.lemmas.List.{take_more, drop_more}
 use Rattle.std.specs.Prelude.{IsTrue}
 use Rattle.ipe_machine.specs.declared.event.Event.{Event}
@@ -7,18 +7,7 @@ use Rattle.ipe_machine.specs.declared.event.Reply.{Reply}
 use Rattle.ipe_machine.specs.Answer.{Verdicts}
 use Rattle.ipe_machine.specs.Machine.{Machine, after_event, reply_to, is_allowed}
 use Rattle.ipe_machine.specs.Run.{replies, after_all, IsLegal}
-
-pub after_all-append : (verdicts : Verdicts) (machine : Machine) (before more : List Event) → after_all verdicts machine (before ++ more) ≡ after_all verdicts (after_all verdicts machine before) more
-after_all-append verdicts machine [] more = refl
-after_all-append verdicts machine (event ∷ before) more = after_all-append verdicts (after_event verdicts machine event) before more
-
-pub replies-append : (verdicts : Verdicts) (machine : Machine) (before more : List Event) → replies verdicts machine (before ++ more) ≡ replies verdicts machine before ++ replies verdicts (after_all verdicts machine before) more
-replies-append verdicts machine [] more = refl
-replies-append verdicts machine (event ∷ before) more = ap (λ rest. reply_to verdicts machine event ∷ rest) (replies-append verdicts (after_event verdicts machine event) before more)
-
-pub legal_rest : (verdicts : Verdicts) (machine : Machine) (before more : List Event) → IsLegal verdicts machine (before ++ more) → IsLegal verdicts (after_all verdicts machine before) more
-legal_rest verdicts machine [] more legal = legal
-legal_rest verdicts machine (event ∷ before) more legal = legal_rest verdicts (after_event verdicts machine event) before more legal.1
+use Rattle.ipe_machine.proofs.Runs.{after_all-append, replies-append}
 
 -- how far a run has come, and that the rest is allowed
 pub record IsRunning (verdicts : Verdicts) (first : Machine) (events : List Event) (at : ℕ) (machine : Machine) (found : List Reply) : Type 0 where
@@ -43,7 +32,7 @@ pub runs_on : (verdicts : Verdicts) (first machine : Machine) (events : List Eve
 runs_on verdicts first machine events at event found within is running =
     let one : take (at + 1) events ≡ take at events ++ event ∷ [] = take_more events at event within ∙ ap (λ (e : Event). take at events ++ e ∷ []) (sym is) in
     let last : found ++ reply_to verdicts machine event ∷ [] ≡ replies verdicts first (take at events) ++ reply_to verdicts (after_all verdicts first (take at events)) event ∷ [] =
-      ap (λ (rs : List Reply). rs ++ reply_to verdicts machine event ∷ []) running.replied ∙ ap (λ (m : Machine). replies verdicts first (take at events) ++ reply_to verdicts m event ∷ []) running.reached in
+    ap (λ (rs : List Reply). rs ++ reply_to verdicts machine event ∷ []) running.replied ∙ ap (λ (m : Machine). replies verdicts first (take at events) ++ reply_to verdicts m event ∷ []) running.reached in
     record {
       reached = after_more verdicts first machine events at event within is running.reached;
       replied = last ∙ sym (replies-append verdicts first (take at events) (event ∷ [])) ∙ sym (ap (λ (es : List Event). replies verdicts first es) one);

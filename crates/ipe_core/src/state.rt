@@ -22,6 +22,7 @@ impl Model for State {
 }
 
 const LAST_SERIAL: u64 = 1 << 63;
+
 const MOST_CLAIMS: u64 = 1 << 40;
 
 impl State {

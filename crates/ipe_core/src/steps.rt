@@ -38,12 +38,7 @@ pub fn step<S: Signer>(
             request,
             context,
             ..
-        } => Ok(Reply::Claimed(claim(
-            state,
-            *pass as usize,
-            request,
-            context,
-        ))),
+        } => Ok(Reply::Claimed(claim(state, *pass as usize, request, context))),
         Event::Return { pass } => {
             state.held[*pass as usize] = None;
             Ok(Reply::Returned)

@@ -3,3 +3,4 @@ pub mod Policies
 pub mod Answer
 pub mod Machine
 pub mod Run
+pub mod Law

@@ -7,7 +7,9 @@
 mod answer;
 mod command;
 mod event;
+mod law;
 
 pub use answer::{Done, Refusal};
 pub use command::{Act, Command, Text, Value};
 pub use event::{CoreOutcome, CoreRuling, Event, Events, Place, Replies, Reply};
+pub use law::active_version_never_falls;

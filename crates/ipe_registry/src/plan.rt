@@ -258,7 +258,8 @@ impl Registry {
         let Some(place) = place_of(&self.entries, name.as_slice()) else {
             return Plan::Refused(Refusal::NoEntry);
         };
-        if self.is_active(name.as_slice()) {
+        let active = self.is_active(name.as_slice());
+        if active {
             return Plan::Refused(Refusal::IsActive);
         }
         ready(Step::Remove { place })

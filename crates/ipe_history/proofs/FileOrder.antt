@@ -1,0 +1,145 @@
+-- The order of the file is in place.
+use Rattle.std.proofs.Common.{◌≡◌, ℕ, ◌+◌, ◌<◌, ◌⊎◌, inl, inr, List, [], ◌∷◌, Option, refl, subst, arith}
+use Rattle.std.specs.List.{AllByRecursion, AllZip, cons_option, filter_map}
+use Rattle.ipe_machine.specs.Machine.{Machine}
+use Rattle.ipe_script.specs.declared.script.PhaseLine.{PhaseLine}
+use Rattle.ipe_script.specs.declared.script.Task.{Task}
+use Rattle.ipe_script.specs.declared.script.Task.TheVariants.{Load, Activate, Hook}
+use Rattle.ipe_script.specs.Script.{Script, actor_of, actor_of_task}
+use Rattle.ipe_history.specs.Order.{Entry, Key, IsBefore, Rises, key_of, entries_of, after_line, after_lines, phases_entries, at_the_start, NumbersRise, AllHooks, CommandsFirst, IsWeaveOf, IsWeave, IsInPlace, IsFileOrder}
+use Rattle.ipe_history.proofs.Epochs.{IsHookStep, IsCommandStep, line_of, line_key, line_step}
+
+-- a key of this epoch, rank and place
+abbrev at : ℕ → ℕ → ℕ → Key
+at epoch rank within = record { epoch = epoch; rank = rank; within = within }
+
+-- the keys of lines
+abbrev keys_of : Script → Machine → List PhaseLine → List Key
+keys_of script machine lines = filter_map key_of (entries_of script machine lines)
+
+-- a first key may be left out
+Rises-tail : (key : Key) (keys : List Key) → Rises (key ∷ keys) → Rises keys
+Rises-tail key [] h = tt
+Rises-tail key (next ∷ keys) h = h.1
+
+-- a key of an epoch is before what comes next in it: before each command's, where it begins the epoch or has a lower number
+abbrev Later : ℕ → ℕ → ℕ → Type 0
+Later rank within number = (rank < 1) ⊎ ((rank ≡ 1) × (within < number))
+
+-- and before each claim's, where it is a command's or has a lower count
+abbrev Counted : ℕ → ℕ → ℕ → Type 0
+Counted rank within count = (rank < 2) ⊎ ((rank ≡ 2) × (within < count))
+
+-- the epoch of a first key, by what equals it
+moved : (rank within : ℕ) (keys : List Key) {before after : ℕ} → after ≡ before → Rises (at after rank within ∷ keys) → Rises (at before rank within ∷ keys)
+moved rank within keys same h = subst (λ (e : ℕ). Rises (at e rank within ∷ keys)) same h
+
+-- a line of a hook makes a hook's step
+task_hooks : (script : Script) (machine : Machine) (number : ℕ) (task : Task) → actor_of_task task ≡ 1
+    → IsHookStep machine (after_line script machine (line_of number task)) (line_key script machine (line_of number task))
+task_hooks script machine number (Load text) hook = absurd (omega (arith, hook))
+task_hooks script machine number (Activate name) hook = absurd (omega (arith, hook))
+task_hooks script machine number (Hook request subject file) hook = line_step script machine number (Hook request subject file)
+
+-- the same of a line
+hook_step : (script : Script) (machine : Machine) (line : PhaseLine) → actor_of line ≡ 1 → IsHookStep machine (after_line script machine line) (line_key script machine line)
+hook_step script machine line hook = task_hooks script machine line.line line.task hook
+
+-- a hook's line before keys that rise behind each key that is before them
+hook_onto : (before after : Machine) (key : Option Key) (rank within : ℕ) (keys : List Key) → IsHookStep before after key → Counted rank within before.count
+    → ((r w : ℕ) → Counted r w after.count → Rises (at after.policies.epoch r w ∷ keys))
+    → Rises (at before.policies.epoch rank within ∷ cons_option key keys)
+hook_onto before after key rank within keys (inl step) counted rise =
+    let epoch = step.0 in
+    let more : Counted rank within after.count = rw step.1 counted in
+    rw step.2 (moved rank within keys epoch (rise rank within more))
+hook_onto before after key rank within keys (inr step) counted rise =
+    let epoch = step.0 in
+    let more : Counted 2 before.count after.count = inr (refl, omega (arith, step.1)) in
+    let first : IsBefore (at before.policies.epoch rank within) (at before.policies.epoch 2 before.count) = inr (refl, counted) in
+    rw step.2 (first, moved 2 before.count keys epoch (rise 2 before.count more))
+
+-- the keys of hooks' lines rise
+hooks_rise : (script : Script) (machine : Machine) (rank within : ℕ) (lines : List PhaseLine) → AllHooks lines → Counted rank within machine.count
+    → Rises (at machine.policies.epoch rank within ∷ keys_of script machine lines)
+hooks_rise script machine rank within [] hooks counted = tt
+hooks_rise script machine rank within (line ∷ lines) hooks counted =
+    hook_onto machine (after_line script machine line) (line_key script machine line) rank within (keys_of script (after_line script machine line) lines)
+    (hook_step script machine line hooks.0) counted (λ r w. hooks_rise script (after_line script machine line) r w lines hooks.1)
+
+-- a command's line before keys that rise behind each key that is before them
+command_onto : (number : ℕ) (before after : Machine) (key : Option Key) (rank within : ℕ) (keys : List Key) → IsCommandStep number before after key → Later rank within number
+    → Rises (at after.policies.epoch 1 number ∷ keys) → Rises (at after.policies.epoch 0 0 ∷ keys)
+    → Rises (at before.policies.epoch rank within ∷ cons_option key keys)
+command_onto number before after key rank within keys (inl step) later stays begins =
+    let epoch = step.0 in
+    let first : IsBefore (at before.policies.epoch rank within) (at before.policies.epoch 1 number) = inr (refl, later) in
+    rw step.1 (first, moved 1 number keys epoch stays)
+command_onto number before after key rank within keys (inr step) later stays begins =
+    let epoch = step.0 in
+    let first : IsBefore (at before.policies.epoch rank within) (at (before.policies.epoch + 1) 0 0) = inl (omega arith) in
+    rw step.1 (first, moved 0 0 keys epoch begins)
+
+-- the first line, if there is one, has a higher number
+abbrev LaterFirst : ℕ → ℕ → List PhaseLine → Type 0
+LaterFirst rank within [] = Unit {0}
+LaterFirst rank within (line ∷ lines) = Later rank within line.line
+
+-- the lines behind a line have higher numbers
+numbers-first : (line : PhaseLine) (lines : List PhaseLine) → NumbersRise (line ∷ lines) → LaterFirst 1 line.line lines × NumbersRise lines
+numbers-first line [] rise = (tt, tt)
+numbers-first line (next ∷ lines) rise = (inr (refl, rise.0), rise.1)
+
+-- each number is higher than what begins an epoch
+begins-first : (lines : List PhaseLine) → LaterFirst 0 0 lines
+begins-first [] = tt
+begins-first (line ∷ lines) = inl (omega arith)
+
+-- what begins an epoch, and a command, are before each claim in it
+low-counted : (rank within count number : ℕ) → Later rank within number → Counted rank within count
+low-counted rank within count number (inl begins) = inl (omega arith)
+low-counted rank within count number (inr later) = inl (omega arith)
+
+-- a line of a command makes a command's step; a hook's line has only hooks behind it
+task_splits : (script : Script) (machine : Machine) (number : ℕ) (task : Task)
+    → IsCommandStep number machine (after_line script machine (line_of number task)) (line_key script machine (line_of number task)) ⊎ (actor_of_task task ≡ 1)
+task_splits script machine number (Load text) = inl (line_step script machine number (Load text))
+task_splits script machine number (Activate name) = inl (line_step script machine number (Activate name))
+task_splits script machine number (Hook request subject file) = inr refl
+
+-- the keys of a phase's lines rise behind each key of the epoch that is before them
+lines_rise : (script : Script) (machine : Machine) (rank within : ℕ) (lines : List PhaseLine) → NumbersRise lines → CommandsFirst lines → LaterFirst rank within lines
+    → Rises (at machine.policies.epoch rank within ∷ keys_of script machine lines)
+lines_rise script machine rank within [] numbers commands later = tt
+lines_rise script machine rank within (line ∷ lines) numbers commands later =
+    let then = after_line script machine line in
+    let behind = numbers-first line lines numbers in
+    elim (task_splits script machine line.line line.task) [
+      | inl step ↦
+          command_onto line.line machine then (line_key script machine line) rank within (keys_of script then lines) step later
+          (lines_rise script then 1 line.line lines behind.1 commands.1 behind.0)
+          (lines_rise script then 0 0 lines behind.1 commands.1 (begins-first lines))
+      | inr hook ↦ hooks_rise script machine rank within (line ∷ lines) (hook, commands.0 hook) (low-counted rank within machine.count line.line later)
+    ]
+
+-- each phase is in place, from each machine on
+phases_in_place : (script : Script) (machine : Machine) (phases : List (List PhaseLine)) → AllByRecursion (λ (lines : List PhaseLine). NumbersRise lines × CommandsFirst lines) phases
+    → AllByRecursion (λ (entries : List Entry). Rises (filter_map key_of entries)) (phases_entries script machine phases)
+phases_in_place script machine [] order = tt
+phases_in_place script machine (lines ∷ phases) order = (
+  Rises-tail (at machine.policies.epoch 0 0) (keys_of script machine lines) (lines_rise script machine 0 0 lines order.0.0 order.0.1 (begins-first lines)),
+  phases_in_place script (after_lines script machine lines) phases order.1,
+)
+
+-- a script in the order of its file is in place
+pub file_order_in_place : (script : Script) → IsFileOrder script → IsInPlace script script.phases
+file_order_in_place script order = phases_in_place script at_the_start script.phases order
+
+-- phases are weaves of themselves
+phases_weave : (phases : List (List PhaseLine)) → AllZip IsWeaveOf phases phases
+phases_weave [] = tt
+phases_weave (lines ∷ phases) = ((λ actor. refl), phases_weave phases)
+
+-- the order of the file is a weave
+pub file_order_weaves : (script : Script) → IsWeave script script.phases
+file_order_weaves script = phases_weave script.phases

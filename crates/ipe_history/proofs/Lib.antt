@@ -1,0 +1,5 @@
+pub mod Epochs
+pub mod FileOrder
+pub mod Phases
+pub mod Steps
+pub mod Reading

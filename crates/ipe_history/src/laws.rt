@@ -1,0 +1,20 @@
+ghost use Rattle.ipe_history.specs.Order.{IsFileOrder, IsInPlace, IsWeave};
+ghost use Rattle.ipe_script.specs.Grammar.{requests_of};
+ghost use Rattle.ipe_script.specs.Script.{Script};
+ghost use Rattle.std.specs.List.{sum_by};
+ghost use Rattle.std.specs.Prelude.{◌≡◌, ℕ, ◌+◌, ◌≤◌, List, length, Ok};
+
+/// The order in which a file has its lines is an order that a transcript may have them in, and each line that has a place
+/// stands in it.
+pub fn file_order_is_in_place()
+    ensures weave { (script : Script) → IsWeave script script.phases }
+    ensures in_place { (script : Script) → IsFileOrder script → IsInPlace script script.phases }
+{}
+
+/// What is read of a request file has each phase's commands before its hooks, all in the order of the file, and has no more
+/// lines than the file has bytes, and one.
+pub fn requests_are_in_file_order()
+    ensures order { (input : List ℕ) (script : Script) → requests_of input ≡ Ok script → IsFileOrder script }
+    ensures few { (input : List ℕ) (script : Script) → requests_of input ≡ Ok script →
+        sum_by length script.phases ≤ length input + 1 }
+{}

@@ -1,0 +1,111 @@
+-- A line takes at most one serial and one claim, and leaves the pass free.
+use Rattle.std.proofs.Common.{◌≡◌, ℕ, suc, ◌+◌, ◌-◌, ◌<◌, ◌≤◌, ◌==◌, cond, Bool, true, false, IsTrue, List, [], ◌∷◌, Option, Some, None, Result, Ok, Err, slice_get, slice_set, length, refl, arith}
+use Rattle.ipe_policy.specs.declared.op.Op.{Op}
+use Rattle.ipe_policy.specs.declared.evaluation.Context.{Context}
+use Rattle.ipe_policy.specs.Request.{evaluated_op}
+use Rattle.ipe_machine.specs.declared.command.Act.{Act}
+use Rattle.ipe_machine.specs.declared.command.Act.TheVariants.{Load, Update, Activate, Delete, Enforce, SuccessAudit}
+use Rattle.ipe_machine.specs.declared.command.Command.{Command}
+use Rattle.ipe_machine.specs.declared.command.Value.TheVariants as value
+use Rattle.ipe_machine.specs.declared.answer.Done.{Done}
+use Rattle.ipe_machine.specs.declared.answer.Done.TheVariants as done
+use Rattle.ipe_machine.specs.declared.answer.Refusal.{Refusal}
+use Rattle.ipe_machine.specs.declared.event.Reply.TheVariants as reply
+use Rattle.ipe_machine.specs.Policies.{Policies, Loaded, is_active, active_entry}
+use Rattle.ipe_machine.specs.Answer.{Verdicts, changed, after_answer, after, answer}
+use Rattle.ipe_machine.specs.Machine.{Machine, ruling_for, ruling_at, claimed, after_claim, with_policies, is_free}
+use Rattle.ipe_script.specs.declared.script.PhaseLine.{PhaseLine}
+use Rattle.ipe_script.specs.declared.script.Task.{Task}
+use Rattle.ipe_script.specs.declared.script.Task.TheVariants as task
+use Rattle.ipe_script.specs.Script.{Script, bytes_of}
+use Rattle.ipe_history.specs.Order.{is_held, after_line, after_lines, context_of, verdicts_of, event_of}
+use Rattle.ipe_replay.specs.Room.{HasRoom}
+
+cond-next : (b : Bool) (p q : Policies) (n : ℕ) → p.next ≤ n → q.next ≤ n → (cond b p q).next ≤ n
+cond-next true p q n hp hq = hp
+cond-next false p q n hp hq = hq
+
+cond-le : (b : Bool) (x y n : ℕ) → x ≤ n → y ≤ n → cond b x y ≤ n
+cond-le true x y n hx hy = hx
+cond-le false x y n hx hy = hy
+
+-- an act takes at most one serial
+changed-next : (p : Policies) (act : Act) → (changed p act).next ≤ p.next + 1
+changed-next p (Load text) = omega arith
+changed-next p (Update name text) = cond-next (is_active name p) _ _ (p.next + 1) (omega arith) (omega arith)
+changed-next p (Activate name wanted) = omega arith
+changed-next p (Delete name wanted) = omega arith
+changed-next p (Enforce wanted) = omega arith
+changed-next p (SuccessAudit wanted) = omega arith
+
+after_answer-next : (p : Policies) (act : Act) (r : Result Done Refusal) → (after_answer p act r).next ≤ p.next + 1
+after_answer-next p act (Err refusal) = omega arith
+after_answer-next p act (Ok done.AlreadyActive) = omega arith
+after_answer-next p act (Ok done.Same) = omega arith
+after_answer-next p act (Ok done.Loaded) = changed-next p act
+after_answer-next p act (Ok done.Updated) = changed-next p act
+after_answer-next p act (Ok done.Activated) = changed-next p act
+after_answer-next p act (Ok done.Deleted) = changed-next p act
+after_answer-next p act (Ok done.Changed) = changed-next p act
+
+-- a command takes at most one serial and no claim
+room-command : (v : Verdicts) (m : Machine) (c : Command) (n : ℕ) → HasRoom m (suc n) → HasRoom (with_policies m (after v m.policies c)) n
+room-command v m c n room = record {
+  serials = omega (arith, after_answer-next m.policies c.act (answer v m.policies c), room.serials);
+  claims = omega (arith, cond-le ((after v m.policies c).epoch == m.policies.epoch) m.count 0 m.count (omega arith) (omega arith), room.claims);
+  free = room.free;
+}
+
+-- a pass that took something and returned it is free
+free-returned : (held : List (Option ℕ)) (serial : ℕ) → IsTrue (is_free (slice_get held 0)) → IsTrue (is_free (slice_get (slice_set (slice_set held 0 (Some serial)) 0 None) 0))
+free-returned [] serial free = free
+free-returned (h ∷ held) serial free = refl
+
+-- the machine after a claim, returned where it holds something
+abbrev returned : Machine → Option Op → Context → Machine
+returned m op context = cond (is_held (reply.Claimed (ruling_for m op context))) (record (after_claim m 0 op) { held = slice_set (after_claim m 0 op).held 0 None }) (after_claim m 0 op)
+
+room-entry : (m : Machine) (op : Op) (context : Context) (entry : Option Loaded) (n : ℕ) → HasRoom m (suc n)
+    → HasRoom (cond (is_held (reply.Claimed (ruling_at m entry op context))) (record (claimed m 0 entry) { held = slice_set (claimed m 0 entry).held 0 None }) (claimed m 0 entry)) n
+room-entry m op context None n room = record {
+  serials = omega (arith, room.serials);
+  claims = omega (arith, room.claims);
+  free = room.free;
+}
+room-entry m op context (Some entry) n room = record {
+  serials = omega (arith, room.serials);
+  claims = omega (arith, room.claims);
+  free = free-returned m.held entry.serial room.free;
+}
+
+room-claim : (m : Machine) (op : Option Op) (context : Context) (n : ℕ) → HasRoom m (suc n) → HasRoom (returned m op context) n
+room-claim m None context n room = record {
+  serials = omega (arith, room.serials);
+  claims = omega (arith, room.claims);
+  free = room.free;
+}
+room-claim m (Some op) context n room = room-entry m op context (active_entry m.policies) n room
+
+-- after a line there is room for one less
+pub room-after_line : (script : Script) (m : Machine) (line : PhaseLine) (n : ℕ) → HasRoom m (suc n) → HasRoom (after_line script m line) n
+room-after_line script m line n room = room-task line.task
+  where
+    room-task : (t : Task) → HasRoom (after_line script m (record line { task = t })) n
+    room-task (task.Load text) = room-command (verdicts_of script) m (record { may = true; act = Load (bytes_of script text) }) n room
+    room-task (task.Activate name) = room-command (verdicts_of script) m (record { may = true; act = Activate name value.True }) n room
+    room-task (task.Hook request subject file) = room-claim m (evaluated_op request) (context_of file) n room
+
+-- room for more lines is room for fewer
+pub room-fewer : (m : Machine) (k n : ℕ) → k ≤ n → HasRoom m n → HasRoom m k
+room-fewer m k n le room = record {
+  serials = omega (arith, room.serials);
+  claims = omega (arith, room.claims);
+  free = room.free;
+}
+
+-- after lines there is room for the others
+pub room-after_lines : (script : Script) (m : Machine) (lines : List PhaseLine) (n : ℕ) → HasRoom m (length lines + n) → HasRoom (after_lines script m lines) n
+room-after_lines script m [] n room = room-fewer m n (0 + n) (omega arith) room
+room-after_lines script m (line ∷ lines) n room =
+    room-after_lines script (after_line script m line) lines n
+    (room-after_line script m line (length lines + n) (room-fewer m (suc (length lines + n)) (suc (length lines) + n) (omega arith) room))

@@ -1,0 +1,13 @@
+use Rattle.std.proofs.Common.{◌≡◌, ◌-◌, ◌++◌, length, drop, string_bytes}
+use Rattle.ipe_history.specs.Order.{after_lines}
+use Rattle.ipe_history.specs.Transcript.{lines_text}
+use Rattle.ipe_replay.specs.Room.{HasRoom}
+use Rattle.ipe_replay.proofs.phases.replay_phase.Given as goal
+
+-- what is printed, and what the lines that are left will add, is what all the lines add; so with the machine
+abbrev pub invariant-loop-line : goal.invariant-loop-line
+invariant-loop-line l = record {
+  printed : string_bytes l.out ++ lines_text l.requests l.state (drop l.line-index l.line-items) ≡ string_bytes l.fn.out ++ lines_text l.requests l.fn.state l.line-items;
+  stepped : after_lines l.requests l.state (drop l.line-index l.line-items) ≡ after_lines l.requests l.fn.state l.line-items;
+  room : HasRoom l.state (length l.line-items - l.line-index);
+}

@@ -1,0 +1,6 @@
+//! From a request file to its transcript, on the pure machine.
+#![tactic(auto)]
+
+mod phases;
+
+pub use phases::replay;

@@ -1,0 +1,75 @@
+-- A request file, line by line.
+use Rattle.std.proofs.Common.{◌≡◌, ℕ, ◌+◌, ◌<◌, ◌≤◌, Bool, true, false, cond, not, ltb, ◌==◌, ◌&&◌, List, [], ◌∷◌, length, get_or, take, drop, Option, Some, None, Result, Ok, Err, refl, sym, ap, ◌∙◌, arith, length-drop}
+use Rattle.std.specs.List.{slice_split, position, position_or_len}
+use Rattle.std.specs.Option.{option_map_or}
+use Rattle.std.proofs.lemmas.Bool.{false≢true}
+use Rattle.std.proofs.lemmas.Bool.{ltb-true, ltb-false}
+use Rattle.std.proofs.lemmas.List.Elements.{All-from_get_or}
+use Rattle.std.proofs.lemmas.List.Splits.{slice_split_none, slice_split_first, length-slice_split}
+use Rattle.std.proofs.lemmas.List.Sums.{prefix_len_passes}
+use Rattle.ipe_script.specs.Script.{Script}
+use Rattle.ipe_script.specs.Grammar.{Progress, next, is_line_feed, is_ended, requests_from}
+use Rattle.ipe_script.specs.Reader.{Takes}
+use Rattle.ipe_script.specs.Answers.{CutsLine}
+
+not-true : (b : Bool) → not b ≡ true → b ≡ false
+not-true true h = absurd (false≢true h)
+not-true false h = refl
+
+at_place : (test : Bool) (place end : ℕ) → cond test (Some place) None ≡ Some end → (test ≡ true) × (place ≡ end)
+at_place true place end e = (refl, cc)
+at_place false place end e = cc
+
+at_no_place : (test : Bool) (place : ℕ) → cond test (Some place) None ≡ None → test ≡ false
+at_no_place true place e = cc
+at_no_place false place e = refl
+
+-- the piece before the first line feed, and the pieces behind it
+pub CutsLine-from_position : (bytes line rest : List ℕ) (end : ℕ) → Some end ≡ position is_line_feed bytes → line ≡ take end bytes → rest ≡ drop (end + 1) bytes → CutsLine bytes line rest
+CutsLine-from_position bytes line rest end e line_is rest_is =
+    let found : (ltb (position_or_len is_line_feed bytes) (length bytes) ≡ true) × (position_or_len is_line_feed bytes ≡ end) = at_place (ltb (position_or_len is_line_feed bytes) (length bytes)) (position_or_len is_line_feed bytes) end (sym e) in
+    let inside : position_or_len is_line_feed bytes < length bytes = ltb-true (position_or_len is_line_feed bytes) (length bytes) found.0 in
+    let cut : slice_split is_line_feed bytes ≡ take (position_or_len is_line_feed bytes) bytes ∷ slice_split is_line_feed (drop (position_or_len is_line_feed bytes + 1) bytes) = slice_split_first is_line_feed bytes 0 inside in
+    record {
+      pieces = rw (line_is, rest_is, ← found.1) cut;
+      shorter = rw rest_is (simp length-drop (omega arith));
+    }
+
+-- where no line feed is left, all is one piece
+pub split_last : (rest : List ℕ) → None ≡ position is_line_feed rest → slice_split is_line_feed rest ≡ rest ∷ []
+split_last rest e =
+    let none : ltb (position_or_len is_line_feed rest) (length rest) ≡ false = at_no_place (ltb (position_or_len is_line_feed rest) (length rest)) (position_or_len is_line_feed rest) (sym e) in
+    let outside : length rest ≤ position_or_len is_line_feed rest = ltb-false (position_or_len is_line_feed rest) (length rest) none in
+    slice_split_none is_line_feed rest (All-from_get_or (λ x. is_line_feed x ≡ false) rest 0 (λ i h. not-true (is_line_feed (get_or rest i 0)) (prefix_len_passes (λ x. not (is_line_feed x)) rest i 0 (omega arith))))
+
+-- a line with pieces behind it
+requests_from-line : (progress : Progress) (number : ℕ) (line : List ℕ) (pieces : List (List ℕ)) → 0 < length pieces → requests_from progress number (line ∷ pieces) ≡ option_map_or (λ more. requests_from more (number + 1) pieces) (next progress (number + 1) line) (Err (number + 1))
+requests_from-line progress number line [] some = absurd (omega arith)
+requests_from-line progress number line (piece ∷ pieces) some = refl
+
+pieces_are : (rest : List ℕ) → 0 < length (slice_split is_line_feed rest)
+pieces_are rest = let e : length (slice_split is_line_feed rest) ≡ _ = length-slice_split is_line_feed rest in omega arith
+
+-- what the rest of a file asks, by its first line
+at_line : (progress : Progress) (number : ℕ) (bytes line rest : List ℕ) → CutsLine bytes line rest → requests_from progress number (slice_split is_line_feed bytes) ≡ option_map_or (λ more. requests_from more (number + 1) (slice_split is_line_feed rest)) (next progress (number + 1) line) (Err (number + 1))
+at_line progress number bytes line rest cut =
+    rw cut.pieces (requests_from-line progress number line (slice_split is_line_feed rest) (pieces_are rest))
+
+taken_is : (come_to : Option Progress) (now : Progress) (taken : Bool) → taken ≡ true → Takes come_to now taken → come_to ≡ Some now
+taken_is come_to now true e h = h
+taken_is come_to now false e h = absurd (false≢true e)
+
+refused_is : (come_to : Option Progress) (now : Progress) (taken : Bool) → taken ≡ false → Takes come_to now taken → come_to ≡ None
+refused_is come_to now true e h = absurd (false≢true (sym e))
+refused_is come_to now false e h = h
+
+pub asked-taken : (asked : Result Script ℕ) (progress now : Progress) (number : ℕ) (bytes line rest : List ℕ) (taken : Bool) → asked ≡ requests_from progress number (slice_split is_line_feed bytes) → CutsLine bytes line rest → taken ≡ true → Takes (next progress (number + 1) line) now taken → asked ≡ requests_from now (number + 1) (slice_split is_line_feed rest)
+asked-taken asked progress now number bytes line rest taken e cut was h =
+    e ∙ at_line progress number bytes line rest cut ∙ ap (λ (found : Option Progress). option_map_or (λ more. requests_from more (number + 1) (slice_split is_line_feed rest)) found (Err (number + 1))) (taken_is (next progress (number + 1) line) now taken was h)
+
+pub asked-refused : (asked : Result Script ℕ) (progress now : Progress) (number : ℕ) (bytes line rest : List ℕ) (taken : Bool) → asked ≡ requests_from progress number (slice_split is_line_feed bytes) → CutsLine bytes line rest → taken ≡ false → Takes (next progress (number + 1) line) now taken → asked ≡ Err (number + 1)
+asked-refused asked progress now number bytes line rest taken e cut was h =
+    e ∙ at_line progress number bytes line rest cut ∙ ap (λ (found : Option Progress). option_map_or (λ more. requests_from more (number + 1) (slice_split is_line_feed rest)) found (Err (number + 1))) (refused_is (next progress (number + 1) line) now taken was h)
+
+pub asked-last : (asked : Result Script ℕ) (progress : Progress) (number : ℕ) (bytes : List ℕ) → asked ≡ requests_from progress number (slice_split is_line_feed bytes) → slice_split is_line_feed bytes ≡ bytes ∷ [] → (is_ended progress.stage && (length bytes == 0)) ≡ false → asked ≡ Err (number + 1)
+asked-last asked progress number bytes e last open_end = e ∙ ap (λ (pieces : List (List ℕ)). requests_from progress number pieces) last ∙ ap (λ (ended : Bool). cond ended (Ok progress.script) (Err (number + 1))) open_end

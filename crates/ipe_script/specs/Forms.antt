@@ -1,0 +1,98 @@
+-- The forms of a request file's lines, each told by its words.
+use Rattle.std.specs.Prelude.{ℕ, ◌-◌, ◌+◌, ◌<◌, ◌==◌, ◌&&◌, ◌||◌, Bool, true, false, not, nat_le, nat_lt, nat_eq, if◌then◌else◌, codes, List, [], ◌∷◌, length, map, take, drop, Option, Some, None, slice_index}
+use Rattle.std.specs.Borrow.{Bor}
+use Rattle.std.specs.List.{slice_split}
+use Rattle.std.specs.Option.{option_map, option_and_then, option_or}
+use Rattle.ipe_policy.specs.Words.{is_text, is_word, is_digit, is_dev_name, is_path, is_name, is_comm}
+use Rattle.ipe_policy.specs.Version.{digits_onto}
+use Rattle.ipe_script.specs.declared.form.Form.{Form}
+use Rattle.ipe_script.specs.declared.form.Form.TheVariants as form
+
+-- one blank parts two words; an empty word is a word too
+abbrev pub is_blank : ℕ → Bool
+is_blank byte = byte == 32
+
+-- the words of a line
+abbrev pub words_of : List ℕ → List (List ℕ)
+words_of line = slice_split is_blank line
+
+-- words as they are seen through references
+abbrev pub seen : List (Bor (List ℕ)) → List (List ℕ)
+seen words = map (λ (word : Bor (List ℕ)). word.now) words
+
+-- one to twenty digits, the first of them no zero that stands before others
+abbrev pub is_number : List ℕ → Bool
+is_number word = is_word 1 20 is_digit word && ((length word == 1) || not (slice_index word 0 == 48))
+
+-- a decimal number without leading zeros, of at most this size
+unfoldable pub number_of : ℕ → List ℕ → Option ℕ
+number_of most word = if is_number word && nat_le (digits_onto 0 word) most then Some (digits_onto 0 word) else None
+
+-- the same, where the condition holds
+abbrev pub when : {A : Type 0} → Bool → Option A → Option A
+when true found = found
+when false found = None
+
+-- the greatest number of lines of a text
+abbrev pub most_lines : ℕ
+most_lines = 1048576
+
+-- `phase` and `end`
+unfoldable pub lone_form : List ℕ → Option Form
+lone_form key = if is_text (codes "phase") key then Some form.Phase else when (is_text (codes "end") key) (Some form.End)
+
+-- `text ID N`
+unfoldable pub text_form : List ℕ → List ℕ → List ℕ → Option Form
+text_form key id lines =
+    when (is_text (codes "text") key && is_dev_name id)
+    (option_map (λ number. form.Text id number) (number_of most_lines lines))
+
+-- `file PATH boot DEV INO ID`
+unfoldable pub file_form : List ℕ → List ℕ → List ℕ → List ℕ → List ℕ → List ℕ → Option Form
+file_form key path kind dev ino text =
+    when (is_text (codes "file") key && is_text (codes "boot") kind && is_path path && is_dev_name dev && is_dev_name text)
+    (option_map (λ number. form.File path dev number text) (number_of 18446744073709551615 ino))
+
+-- `mark policy trusted text ID`
+unfoldable pub mark_form : List ℕ → List ℕ → List ℕ → List ℕ → List ℕ → Option Form
+mark_form key purpose verdict kind text =
+    when (is_text (codes "mark") key && is_text (codes "policy") purpose && is_text (codes "trusted") verdict && is_text (codes "text") kind && is_dev_name text)
+    (Some (form.Mark text))
+
+-- the name in a node `policies/NAME/active`
+unfoldable pub node_name : List ℕ → Option (List ℕ)
+node_name node =
+    let rest = drop 9 node in
+    let name = take (length rest - 7) rest in
+    when (is_text (codes "policies/") (take 9 node) && is_text (codes "/active") (drop (length rest - 7) rest) && is_name name) (Some name)
+
+-- `admin write new_policy text ID`
+unfoldable pub load_form : List ℕ → List ℕ → List ℕ → List ℕ → List ℕ → Option Form
+load_form who verb node kind word =
+    when (is_text (codes "admin") who && is_text (codes "write") verb && is_text (codes "new_policy") node && is_text (codes "text") kind && is_dev_name word)
+    (Some (form.Load word))
+
+-- `admin write policies/NAME/active echo 1`
+unfoldable pub activate_form : List ℕ → List ℕ → List ℕ → List ℕ → List ℕ → Option Form
+activate_form who verb node kind word =
+    when (is_text (codes "admin") who && is_text (codes "write") verb && is_text (codes "echo") kind && is_text (codes "1") word)
+    (option_map form.Activate (node_name node))
+
+-- `w1 exec PID COMM PATH`
+unfoldable pub exec_form : List ℕ → List ℕ → List ℕ → List ℕ → List ℕ → Option Form
+exec_form who hook pid comm path =
+    when (is_text (codes "w1") who && is_text (codes "exec") hook && is_comm comm && is_path path)
+    (option_map (λ number. form.Exec (record { pid = number; comm = comm }) path) (number_of 4294967295 pid))
+
+-- the form of a line behind the first two
+abbrev pub form_of_words : List (List ℕ) → Option Form
+form_of_words (key ∷ []) = lone_form key
+form_of_words (key ∷ id ∷ lines ∷ []) = text_form key id lines
+form_of_words (one ∷ two ∷ three ∷ four ∷ five ∷ []) =
+    option_or (mark_form one two three four five)
+    (option_or (load_form one two three four five) (option_or (activate_form one two three four five) (exec_form one two three four five)))
+form_of_words (key ∷ path ∷ kind ∷ dev ∷ ino ∷ text ∷ []) = file_form key path kind dev ino text
+form_of_words other = None
+
+unfoldable pub form_of : List ℕ → Option Form
+form_of line = form_of_words (words_of line)

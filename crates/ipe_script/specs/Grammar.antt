@@ -1,0 +1,248 @@
+-- Which lines may stand where in a request file, and what a whole file asks.
+use Rattle.std.specs.Prelude.{◌≡◌, ℕ, zero, suc, ◌+◌, ◌-◌, ◌<◌, ◌==◌, ◌&&◌, ◌||◌, Bool, true, false, not, nat_le, nat_lt, if◌then◌else◌, codes, List, [], ◌∷◌, ◌++◌, length, map, Option, Some, None, is_some, is_none, is_ok, Result, Ok, Err, position, slice_get}
+use Rattle.std.specs.List.{slice_split}
+use Rattle.std.specs.Option.{option_map, option_map_or, option_and_then}
+use Rattle.ipe_policy.specs.Words.{is_text}
+use Rattle.ipe_policy.specs.declared.request.Request.TheVariants as request
+use Rattle.ipe_policy.specs.declared.request.Subject.{Subject}
+use Rattle.ipe_parse.specs.Reading.{reading}
+use Rattle.ipe_script.specs.declared.script.TextLine.{TextLine}
+use Rattle.ipe_script.specs.declared.script.FileLine.{FileLine}
+use Rattle.ipe_script.specs.declared.script.PhaseLine.{PhaseLine}
+use Rattle.ipe_script.specs.declared.script.Task.{Task}
+use Rattle.ipe_script.specs.declared.script.Task.TheVariants.{Load, Activate, Hook}
+use Rattle.ipe_script.specs.declared.form.Form.{Form}
+use Rattle.ipe_script.specs.declared.form.Form.TheVariants as form
+use Rattle.ipe_script.specs.Script.{Script, no_script, bytes_of, ids_of, paths_of, size_at}
+use Rattle.ipe_script.specs.Forms.{form_of, when}
+
+-- how far into the file the lines so far have come. Within a text are its id, its bytes so far, and how many lines of it are to come; within a phase, whether a hook line stands in it
+pub data Stage : Type 0 where
+  at_start : Stage
+  at_workers : Stage
+  in_text : List ℕ → List ℕ → ℕ → Stage
+  in_texts : Stage
+  in_files : Stage
+  in_marks : Stage
+  in_phase : Bool → Stage
+  at_end : Stage
+
+-- the lines so far: where they have come, what they declare and ask, and the counts that are limited
+pub record Progress : Type 0 where
+  pub stage : Stage
+  pub script : Script
+  pub has_load : Bool
+  pub commands : ℕ
+  pub hooks : ℕ
+  pub work : ℕ
+
+abbrev pub at_first : Progress
+at_first = record { stage = at_start; script = no_script; has_load = false; commands = 0; hooks = 0; work = 0 }
+
+-- the place of the text of an id, and of the file of a path
+abbrev pub text_place : Script → List ℕ → Option ℕ
+text_place script id = position (is_text id) (ids_of script.texts)
+
+abbrev pub file_place : Script → List ℕ → Option ℕ
+file_place script path = position (is_text path) (paths_of script.files)
+
+-- a text is declared
+abbrev pub with_text : Progress → List ℕ → List ℕ → Progress
+with_text progress id bytes = record progress {
+  stage = in_texts;
+  script = record progress.script { texts = progress.script.texts ++ (record { id = id; bytes = bytes }) ∷ [] };
+}
+
+-- a text whose last lines are these many, and so far these bytes
+abbrev pub open_text : Progress → List ℕ → List ℕ → ℕ → Progress
+open_text progress id bytes zero = with_text progress id bytes
+open_text progress id bytes (suc left) = record progress { stage = in_text id bytes (suc left) }
+
+-- the stages in which each section's lines may stand
+abbrev pub may_declare_text : Stage → Bool
+may_declare_text in_texts = true
+may_declare_text other = false
+
+abbrev pub may_declare_file : Stage → Bool
+may_declare_file in_texts = true
+may_declare_file in_files = true
+may_declare_file other = false
+
+abbrev pub may_mark : Stage → Bool
+may_mark in_texts = true
+may_mark in_files = true
+may_mark in_marks = true
+may_mark other = false
+
+abbrev pub may_begin_phase : Stage → Bool
+may_begin_phase in_texts = true
+may_begin_phase in_files = true
+may_begin_phase in_marks = true
+may_begin_phase (in_phase hooked) = true
+may_begin_phase other = false
+
+-- a command line stands before the hook lines of its phase
+abbrev pub may_command : Stage → Bool
+may_command (in_phase hooked) = not hooked
+may_command other = false
+
+abbrev pub may_hook : Stage → Bool
+may_hook (in_phase hooked) = true
+may_hook other = false
+
+-- a line stands last in the last phase
+abbrev pub onto_last : List (List PhaseLine) → PhaseLine → List (List PhaseLine)
+onto_last [] line = []
+onto_last (lines ∷ []) line = (lines ++ line ∷ []) ∷ []
+onto_last (lines ∷ next ∷ phases) line = lines ∷ onto_last (next ∷ phases) line
+
+abbrev pub with_line : Progress → Bool → ℕ → Task → Progress
+with_line progress hooked number task = record progress {
+  stage = in_phase hooked;
+  script = record progress.script { phases = onto_last progress.script.phases (record { line = number; task = task }) };
+}
+
+-- the limits of a request file
+abbrev pub most_texts : ℕ
+most_texts = 256
+
+abbrev pub most_files : ℕ
+most_files = 1024
+
+abbrev pub most_marks : ℕ
+most_marks = 4096
+
+abbrev pub most_phases : ℕ
+most_phases = 1000
+
+abbrev pub most_commands : ℕ
+most_commands = 100000
+
+abbrev pub most_hooks : ℕ
+most_hooks = 200000
+
+abbrev pub most_work : ℕ
+most_work = 1073741824
+
+-- the most bytes of a policy that is loaded
+abbrev pub most_policy : ℕ
+most_policy = 4096
+
+-- a text that is declared anew
+abbrev pub declare_text : Progress → List ℕ → ℕ → Option Progress
+declare_text progress id lines =
+    when (may_declare_text progress.stage && is_none (text_place progress.script id) && nat_lt (length progress.script.texts) most_texts)
+    (Some (open_text progress id [] lines))
+
+-- a file that is declared anew, of a text that is there
+abbrev pub declare_file : Progress → List ℕ → List ℕ → ℕ → List ℕ → Option Progress
+declare_file progress path dev ino text =
+    when (may_declare_file progress.stage && is_none (file_place progress.script path) && nat_lt (length progress.script.files) most_files)
+    (option_map (λ place. record progress {
+      stage = in_files;
+      script = record progress.script { files = progress.script.files ++ (record { path = path; dev = dev; ino = ino; text = place }) ∷ [] };
+    }) (text_place progress.script text))
+
+-- a mark on a text that is there
+abbrev pub mark_text : Progress → List ℕ → Option Progress
+mark_text progress text =
+    when (may_mark progress.stage && nat_lt (length progress.script.marks) most_marks)
+    (option_map (λ place. record progress {
+      stage = in_marks;
+      script = record progress.script { marks = progress.script.marks ++ place ∷ [] };
+    }) (text_place progress.script text))
+
+abbrev pub begin_phase : Progress → Option Progress
+begin_phase progress =
+    when (may_begin_phase progress.stage && nat_lt (length progress.script.phases) most_phases)
+    (Some (record progress { stage = in_phase false; script = record progress.script { phases = progress.script.phases ++ [] ∷ [] } }))
+
+-- the file's one load: of a text that is there, is no longer than that, and reads as a policy
+abbrev pub add_load : Progress → ℕ → List ℕ → Option Progress
+add_load progress number text =
+    when (may_command progress.stage && not progress.has_load)
+    (option_and_then (λ place.
+    let bytes = bytes_of progress.script place in
+    when (nat_le (length bytes) most_policy && is_ok (reading bytes) && nat_lt progress.commands most_commands && nat_le (progress.work + length bytes) most_work)
+    (Some (with_line (record progress { has_load = true; commands = progress.commands + 1; work = progress.work + length bytes }) false number (Load place))))
+    (text_place progress.script text))
+
+abbrev pub add_activation : Progress → ℕ → List ℕ → Option Progress
+add_activation progress number name =
+    when (may_command progress.stage && nat_lt progress.commands most_commands)
+    (Some (with_line (record progress { commands = progress.commands + 1 }) false number (Activate name)))
+
+-- the size of the file at a place
+abbrev pub size_of : Script → ℕ → ℕ
+size_of script place = size_at script.files script.texts place
+
+-- a program check of a file that is there
+abbrev pub add_exec : Progress → ℕ → Subject → List ℕ → Option Progress
+add_exec progress number subject path =
+    when (may_hook progress.stage)
+    (option_and_then (λ place.
+    let size = size_of progress.script place in
+    when (nat_lt progress.hooks most_hooks && nat_le (progress.work + size) most_work)
+    (Some (with_line (record progress { hooks = progress.hooks + 1; work = progress.work + size }) true number (Hook request.ExecCheck subject (Some place)))))
+    (file_place progress.script path))
+
+-- the file's last line
+abbrev pub end_file : Progress → Option Progress
+end_file progress = when (may_begin_phase progress.stage) (Some (record progress { stage = at_end }))
+
+-- what the lines so far come to with a line of this form, which has this number; nothing where it may not stand here
+abbrev pub with_form : Progress → ℕ → Form → Option Progress
+with_form progress number (form.Text id lines) = declare_text progress id lines
+with_form progress number (form.File path dev ino text) = declare_file progress path dev ino text
+with_form progress number (form.Mark text) = mark_text progress text
+with_form progress number form.Phase = begin_phase progress
+with_form progress number (form.Load text) = add_load progress number text
+with_form progress number (form.Activate name) = add_activation progress number name
+with_form progress number (form.Exec subject path) = add_exec progress number subject path
+with_form progress number form.End = end_file progress
+
+-- a line behind the first two, outside of a text
+abbrev pub with_formed : Progress → ℕ → List ℕ → Option Progress
+with_formed progress number line = option_and_then (with_form progress number) (form_of line)
+
+-- a text's line is taken as it is
+abbrev pub with_raw : Progress → List ℕ → List ℕ → ℕ → List ℕ → Progress
+with_raw progress id bytes left line = open_text progress id (bytes ++ line ++ 10 ∷ []) (left - 1)
+
+-- a line of the text that is open
+abbrev pub raw_line : Stage → Progress → List ℕ → Option Progress
+raw_line (in_text id bytes left) progress line = Some (with_raw progress id bytes left line)
+raw_line other progress line = None
+
+-- the lines so far with one more
+abbrev pub at_stage : Stage → Progress → ℕ → List ℕ → Option Progress
+at_stage at_start progress number line = when (is_text (codes "ipe-requests 1") line) (Some (record progress { stage = at_workers }))
+at_stage at_workers progress number line = when (is_text (codes "workers 1") line) (Some (record progress { stage = in_texts }))
+at_stage (in_text id bytes left) progress number line = Some (with_raw progress id bytes left line)
+at_stage in_texts progress number line = with_formed progress number line
+at_stage in_files progress number line = with_formed progress number line
+at_stage in_marks progress number line = with_formed progress number line
+at_stage (in_phase hooked) progress number line = with_formed progress number line
+at_stage at_end progress number line = None
+
+unfoldable pub next : Progress → ℕ → List ℕ → Option Progress
+next progress number line = at_stage progress.stage progress number line
+
+-- a file's end: after the line `end`
+abbrev pub is_ended : Stage → Bool
+is_ended at_end = true
+is_ended other = false
+
+abbrev pub is_line_feed : ℕ → Bool
+is_line_feed byte = byte == 10
+
+-- what the pieces between line feeds ask, behind the lines so far, of which there are `number`; or the number of the first line that may not stand where it stands. What follows the last line feed is no line, and must be nothing, behind the line `end`
+abbrev pub requests_from : Progress → ℕ → List (List ℕ) → Result Script ℕ
+requests_from progress number [] = Err (number + 1)
+requests_from progress number (rest ∷ []) = if is_ended progress.stage && (length rest == 0) then Ok progress.script else Err (number + 1)
+requests_from progress number (line ∷ piece ∷ pieces) =
+    option_map_or (λ more. requests_from more (number + 1) (piece ∷ pieces)) (next progress (number + 1) line) (Err (number + 1))
+
+-- what a request file asks, or the number of its first bad line
+unfoldable pub requests_of : List ℕ → Result Script ℕ
+requests_of input = requests_from at_first 0 (slice_split is_line_feed input)

@@ -1,0 +1,6 @@
+pub mod Script
+pub mod Forms
+pub mod Grammar
+pub mod Stages
+pub mod Reader
+pub mod Answers
