@@ -218,7 +218,7 @@ module _ (number : ℕ) (progress : Progress) (sound : IsSound number progress) 
       when (nat_lt progress.hooks most_hooks && nat_le (progress.work + size_of progress.script place) most_work) (Some (with_exec progress (number + 1) subject place))
 
   -- a program check
-  exec_sound : (subject : Subject) (path : List ℕ) → Found (IsSound (number + 1)) (add_exec progress (number + 1) (form.Exec subject path))
+  exec_sound : (subject : Subject) (path : List ℕ) → Found (IsSound (number + 1)) (add_exec progress (number + 1) subject path)
   unfolding exec_there
   exec_sound subject path =
       found_when (IsSound (number + 1)) (may_hook progress.stage) (option_and_then (exec_there subject) (file_place progress.script path))

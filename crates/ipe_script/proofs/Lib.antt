@@ -1,3 +1,4 @@
 mod Numbers
+mod Words
 mod Lines
 mod Steps

@@ -1,8 +1,8 @@
 -- The forms of a request file's lines, each told by its words.
-use Rattle.std.specs.Prelude.{ℕ, ◌-◌, ◌+◌, ◌<◌, ◌==◌, ◌&&◌, ◌||◌, Bool, true, false, not, nat_le, nat_lt, nat_eq, if◌then◌else◌, codes, List, [], ◌∷◌, length, map, take, drop, Option, Some, None, slice_index}
+use Rattle.std.specs.Prelude.{ℕ, ◌-◌, ◌==◌, ◌&&◌, ◌||◌, Bool, true, false, not, nat_le, if◌then◌else◌, codes, List, [], ◌∷◌, length, map, take, drop, Option, Some, None, slice_index}
 use Rattle.std.specs.Borrow.{Bor}
 use Rattle.std.specs.List.{slice_split}
-use Rattle.std.specs.Option.{option_map, option_and_then, option_or}
+use Rattle.std.specs.Option.{option_map, option_or}
 use Rattle.ipe_policy.specs.Words.{is_text, is_word, is_digit, is_dev_name, is_path, is_name, is_comm}
 use Rattle.ipe_policy.specs.Version.{digits_onto}
 use Rattle.ipe_script.specs.declared.form.Form.{Form}

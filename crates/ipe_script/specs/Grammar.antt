@@ -1,13 +1,11 @@
 -- Which lines may stand where in a request file, and what a whole file asks.
-use Rattle.std.specs.Prelude.{◌≡◌, ℕ, zero, suc, ◌+◌, ◌-◌, ◌<◌, ◌==◌, ◌&&◌, ◌||◌, Bool, true, false, not, nat_le, nat_lt, if◌then◌else◌, codes, List, [], ◌∷◌, ◌++◌, length, map, Option, Some, None, is_some, is_none, is_ok, Result, Ok, Err, position, slice_get}
+use Rattle.std.specs.Prelude.{ℕ, zero, suc, ◌+◌, ◌-◌, ◌==◌, ◌&&◌, Bool, true, false, not, nat_le, nat_lt, if◌then◌else◌, codes, List, [], ◌∷◌, ◌++◌, length, Option, Some, None, is_none, is_ok, Result, Ok, Err, position}
 use Rattle.std.specs.List.{slice_split}
 use Rattle.std.specs.Option.{option_map, option_map_or, option_and_then}
 use Rattle.ipe_policy.specs.Words.{is_text}
 use Rattle.ipe_policy.specs.declared.request.Request.TheVariants as request
 use Rattle.ipe_policy.specs.declared.request.Subject.{Subject}
 use Rattle.ipe_parse.specs.Reading.{reading}
-use Rattle.ipe_script.specs.declared.script.TextLine.{TextLine}
-use Rattle.ipe_script.specs.declared.script.FileLine.{FileLine}
 use Rattle.ipe_script.specs.declared.script.PhaseLine.{PhaseLine}
 use Rattle.ipe_script.specs.declared.script.Task.{Task}
 use Rattle.ipe_script.specs.declared.script.Task.TheVariants.{Load, Activate, Hook}

@@ -1,6 +1,6 @@
 -- The request file that the program replays, as what its lines declare and ask.
-use Rattle.std.specs.Prelude.{ℕ, Bool, true, false, List, [], ◌∷◌, map, length, Option, Some, None, slice_get}
-use Rattle.std.specs.Option.{option_map, option_map_or}
+use Rattle.std.specs.Prelude.{ℕ, List, [], map, length, slice_get}
+use Rattle.std.specs.Option.{option_map_or}
 use Rattle.ipe_script.specs.declared.script.TextLine.{TextLine}
 use Rattle.ipe_script.specs.declared.script.FileLine.{FileLine}
 use Rattle.ipe_script.specs.declared.script.PhaseLine.{PhaseLine}

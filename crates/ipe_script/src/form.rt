@@ -1,12 +1,14 @@
-ghost use Rattle.std.specs.Prelude.{◌≡◌, ◌≤◌, ◌&&◌, codes, IfOk, IfSome};
+ghost use Rattle.std.specs.Prelude.{◌≡◌, ◌≤◌, ◌&&◌, codes, count_by, IfOk, IfSome};
 ghost use Rattle.ipe_policy.specs.Words.{is_text};
-ghost use Rattle.ipe_script.specs.Forms.{lone_form, text_form, file_form, mark_form, load_form, activate_form, exec_form, node_name, number_of, form_of_words, words_of, form_of, seen};
+ghost use Rattle.ipe_script.specs.Forms.{lone_form, text_form, file_form, mark_form, load_form, activate_form, exec_form, node_name, number_of, form_of_words, is_blank, words_of, form_of, seen};
 
 use ipe_policy::{Comm, DevName, Name, PathName, Subject};
 use ipe_words::decimal;
 use std::alloc::{AllocError, Global};
 
 const MOST_LINES: u64 = 1_048_576;
+
+const MOST_WORDS: usize = 6;
 
 /// What a line of a request file says, behind the first two lines and outside of a text.
 #[derive(Debug, Drop)]
@@ -195,11 +197,20 @@ fn words_of(alloc: Global, line: &[u8]) -> Result<Vec<&[u8]>, AllocError>
     line.split(|byte| *byte == b' ').collect(alloc)
 }
 
-/// The form of a line, told by its words.
+fn blanks(line: &[u8]) -> usize
+    ensures { result ≡ count_by is_blank line.now }
+{
+    line.iter().filter(|byte| **byte == b' ').count()
+}
+
+/// The form of a line, told by its words. A line with more words than any form has is not cut.
 #[tactic(auto, unfolding(crate::specs::Forms::form_of))]
 pub fn read_form(alloc: Global, line: &[u8]) -> Result<Option<Form>, AllocError>
     ensures { IfOk result (λ form. form ≡ form_of line.now) }
 {
+    if blanks(line) >= MOST_WORDS {
+        return Ok(None);
+    }
     let words = words_of(alloc, line)?;
     Ok(form_of_words(words.as_slice()))
 }

@@ -1,4 +1,4 @@
-use Rattle.std.proofs.Common.{◌≡◌, ℕ, ◌≤◌, ◌<◌, ◌^◌, Option, Some, None, IfSome, IfNone, List, arith, sym, ◌∙◌}
+use Rattle.std.proofs.Common.{◌≡◌, ℕ, ◌≤◌, ◌<◌, ◌^◌, Option, Some, None, IfSome, IfNone, List, arith, sym}
 use Rattle.std.specs.Fmt.{decimal}
 use Rattle.ipe_script.specs.Forms.{number_of}
 use Rattle.ipe_script.proofs.Numbers.{number_of-decimal, number_of-none}

@@ -1,0 +1,75 @@
+-- What the program does with an input.
+use Rattle.std.specs.Prelude.{◌≡◌, ℕ, ◌<◌, ◌≤◌, Bool, true, false, codes, List, [], ◌∷◌, ◌++◌, length, take, Option, Some, IfSome, Result, Ok, Err, ◌⊎◌}
+use Rattle.std.specs.Fmt.{decimal}
+use Rattle.ipe_policy.specs.Words.{is_text}
+use Rattle.ipe_words.specs.declared.status.Status.{Status}
+use Rattle.ipe_words.specs.declared.status.Status.TheVariants as status
+use Rattle.ipe_script.specs.declared.script.PhaseLine.{PhaseLine}
+use Rattle.ipe_script.specs.Script.{Script}
+use Rattle.ipe_script.specs.Grammar.{requests_of}
+use Rattle.ipe_history.specs.Order.{IsWeave, IsInPlace}
+use Rattle.ipe_history.specs.Transcript.{transcript}
+use Rattle.ipe_transcript.specs.Lines.{line_text}
+
+-- the most bytes of a request file
+abbrev pub most_input : ℕ
+most_input = 16777216
+
+-- the input asks for exactly this, and the text is the transcript of an order of its lines, each one's in that one's order, and each in its place
+pub record IsReplay (input text : List ℕ) : Type 0 where
+  pub script : Script
+  pub order : List (List PhaseLine)
+  pub fits : length input ≤ most_input
+  pub asks : requests_of input ≡ Ok script
+  pub weave : IsWeave script order
+  pub in_place : IsInPlace script order
+  pub bytes : text ≡ transcript script order
+
+-- the refusal of an input that is too long
+abbrev pub too_long_text : List ℕ
+too_long_text = line_text (codes "refused: too long")
+
+-- the refusal of a line
+abbrev pub bad_line_text : ℕ → List ℕ
+bad_line_text line = codes "refused line " ++ decimal line ++ line_text (codes ": NotYet")
+
+-- an input within the limit is refused by its first bad line
+pub record IsBadLine (input text : List ℕ) : Type 0 where
+  pub line : ℕ
+  pub fits : length input ≤ most_input
+  pub bad : requests_of input ≡ Err line
+  pub bytes : text ≡ bad_line_text line
+
+-- an input above the limit is refused as too long
+pub record IsTooLong (input text : List ℕ) : Type 0 where
+  pub long : most_input < length input
+  pub bytes : text ≡ too_long_text
+
+-- why an input is refused
+abbrev pub IsRefusal : List ℕ → List ℕ → Type 0
+IsRefusal input text = IsTooLong input text ⊎ IsBadLine input text
+
+-- the text that an input is answered with, by the status of the answer
+abbrev pub IsAnswer : List ℕ → Status → List ℕ → Type 0
+IsAnswer input status.Done text = IsReplay input text
+IsAnswer input status.No text = ⊥
+IsAnswer input status.Usage text = ⊥
+IsAnswer input status.Refused text = IsRefusal input text
+IsAnswer input status.ReadFault text = ⊥
+IsAnswer input status.WriteFault text = ⊥
+IsAnswer input status.DeviceFault text = ⊥
+IsAnswer input status.NoMemory text = ⊥
+
+-- where the sink tells what is written, a text of this kind was added to it
+abbrev pub Writes : (List ℕ → Type 0) → Option (List ℕ) → Option (List ℕ) → Type 0
+Writes IsText before after = IfSome before (λ written. (text : List ℕ) × IsText text × (after ≡ Some (written ++ text)))
+
+-- where the sink tells what is written, some first bytes of a text of this kind were added to it
+abbrev pub WritesPrefix : (List ℕ → Type 0) → Option (List ℕ) → Option (List ℕ) → Type 0
+WritesPrefix IsText before after = IfSome before (λ written. (text : List ℕ) × IsText text × (k : ℕ) × (k ≤ length text) × (after ≡ Some (written ++ take k text)))
+
+-- the one form of words that the program knows
+abbrev pub is_replay : List (List ℕ) → Bool
+is_replay [] = false
+is_replay (word ∷ []) = is_text (codes "replay") word
+is_replay (word ∷ next ∷ words) = false

@@ -1,0 +1,105 @@
+ghost use Rattle.std.specs.Prelude.{◌≡◌, ◌≢◌, ◌≤◌, ◌↔◌, ◌⊎◌, [], length, map, IfOk, IfSome, Some, true, false, string_bytes};
+ghost use Rattle.ipe_words.specs.Count.{Rose};
+ghost use Rattle.ipegate.specs.Program.{IsReplay, IsRefusal, IsAnswer, too_long_text, bad_line_text, Writes, WritesPrefix, is_replay};
+
+use ipe_replay::replay;
+use ipe_script::{ScriptError, ScriptKind, parse_requests};
+use ipe_words::{ReadAllError, Sink, Source, Status, read_all, write_all};
+use std::alloc::{AllocError, Global};
+
+/// The most bytes of a request file.
+const MOST_INPUT: u64 = 16_777_216;
+
+/// The program: what its words ask, from the source to the sink.
+///
+/// The one form of words is `replay`: the source is read to its end, and the transcript of its requests, or one line
+/// that says why they are refused, is written. All of it is made before the first byte is written.
+pub fn run<S: Source, K: Sink>(
+    alloc: Global,
+    words: &Vec<String>,
+    source: &mut S,
+    sink: &mut K,
+) -> Status
+    // Other words are refused, and then nothing is read or written.
+    ensures usage { (result ≡ Status.Usage) ↔ (is_replay (map string_bytes words.now.items) ≡ false) }
+    ensures idle { result ≡ Status.Usage → (source.new ≡ source.old) × (sink.new ≡ sink.old) }
+
+    // Done: the source was read to its end, and what was written is the transcript of what it asks.
+    ensures done_read { result ≡ Status.Done → IfSome (S.remaining source.old) (λ input. S.remaining source.new ≡ Some []) }
+    ensures done { result ≡ Status.Done → IfSome (S.remaining source.old) (λ input. Writes (IsReplay input) (K.written sink.old) (K.written sink.new)) }
+
+    // Refused: the input is too long, or has a first bad line, and one line says so.
+    ensures refused { result ≡ Status.Refused → IfSome (S.remaining source.old) (λ input. Writes (IsRefusal input) (K.written sink.old) (K.written sink.new)) }
+
+    // Faults come only where they were counted.
+    ensures read_fault { result ≡ Status.ReadFault → Rose (S.faults source.old) (S.faults source.new) }
+    ensures write_fault { result ≡ Status.WriteFault → Rose (K.faults sink.old) (K.faults sink.new) }
+    ensures write_prefix { result ≡ Status.WriteFault → IfSome (S.remaining source.old) (λ input.
+        WritesPrefix (λ text. IsReplay input text ⊎ IsRefusal input text) (K.written sink.old) (K.written sink.new)) }
+
+    // Without an answer nothing is written.
+    ensures unread { result ≡ Status.ReadFault → sink.new ≡ sink.old }
+    ensures no_memory { result ≡ Status.NoMemory → sink.new ≡ sink.old }
+    ensures no_other { (result ≢ Status.No) × (result ≢ Status.DeviceFault) }
+{
+    match words.as_slice() {
+        [word] if word.as_str() == "replay" => run_replay(alloc, source, sink),
+        _ => Status::Usage,
+    }
+}
+
+fn run_replay<S: Source, K: Sink>(alloc: Global, source: &mut S, sink: &mut K) -> Status
+    ensures usage { result ≢ Status.Usage }
+    ensures done_read { result ≡ Status.Done → IfSome (S.remaining source.old) (λ input. S.remaining source.new ≡ Some []) }
+    ensures done { result ≡ Status.Done → IfSome (S.remaining source.old) (λ input. Writes (IsReplay input) (K.written sink.old) (K.written sink.new)) }
+    ensures refused { result ≡ Status.Refused → IfSome (S.remaining source.old) (λ input. Writes (IsRefusal input) (K.written sink.old) (K.written sink.new)) }
+    ensures read_fault { result ≡ Status.ReadFault → Rose (S.faults source.old) (S.faults source.new) }
+    ensures write_fault { result ≡ Status.WriteFault → Rose (K.faults sink.old) (K.faults sink.new) }
+    ensures write_prefix { result ≡ Status.WriteFault → IfSome (S.remaining source.old) (λ input.
+        WritesPrefix (λ text. IsReplay input text ⊎ IsRefusal input text) (K.written sink.old) (K.written sink.new)) }
+    ensures unread { result ≡ Status.ReadFault → sink.new ≡ sink.old }
+    ensures no_memory { result ≡ Status.NoMemory → sink.new ≡ sink.old }
+    ensures no_other { (result ≢ Status.No) × (result ≢ Status.DeviceFault) }
+{
+    let answer = match read_all(alloc, source, MOST_INPUT) {
+        Ok(input) => answer_to(alloc, &input),
+        Err(ReadAllError::TooLong { .. }) => too_long(alloc),
+        Err(ReadAllError::ReadFault) => return Status::ReadFault,
+        Err(ReadAllError::NoMemory) => return Status::NoMemory,
+    };
+    match answer {
+        Ok((text, status)) => match write_all(sink, text.as_bytes()) {
+            Ok(()) => status,
+            Err(_) => Status::WriteFault,
+        },
+        Err(AllocError) => Status::NoMemory,
+    }
+}
+
+fn too_long(alloc: Global) -> Result<(String, Status), AllocError>
+    ensures text { IfOk result (λ answer. string_bytes answer.0 ≡ too_long_text) }
+    ensures status { IfOk result (λ answer. answer.1 ≡ Status.Refused) }
+{
+    let text = String::from_str(alloc, "refused: too long\n")?;
+    Ok((text, Status::Refused))
+}
+
+// The text that an input is answered with, and the status.
+fn answer_to(alloc: Global, input: &[u8]) -> Result<(String, Status), AllocError>
+    requires { length input.now ≤ 16777216 }
+    ensures { IfOk result (λ answer. IsAnswer input.now answer.1 (string_bytes answer.0)) }
+{
+    match parse_requests(alloc, input) {
+        Ok(requests) => Ok((replay(alloc, &requests)?, Status::Done)),
+        Err(ScriptError::Bad { line, kind }) => Ok((bad_line(alloc, line, kind)?, Status::Refused)),
+        Err(ScriptError::NoMemory) => Err(AllocError),
+    }
+}
+
+fn bad_line(alloc: Global, line: u32, kind: ScriptKind) -> Result<String, AllocError>
+    ensures { IfOk result (λ text. string_bytes text ≡ bad_line_text line) }
+{
+    match kind {
+        ScriptKind::NotYet => format!(in alloc; "refused line {line}: NotYet\n"),
+    }
+}
