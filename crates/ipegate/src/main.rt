@@ -30,3 +30,6 @@ fn words(rt: &HostRuntime) -> Option<Vec<String>> {
     }
     Some(words)
 }
+
+#[cfg(test)]
+mod tests;
