@@ -3,3 +3,4 @@ pub mod FileOrder
 pub mod Phases
 pub mod Steps
 pub mod Reading
+pub mod Spelling

@@ -1,8 +1,11 @@
 ghost use Rattle.ipe_history.specs.Order.{IsFileOrder, IsInPlace, IsWeave};
+ghost use Rattle.ipe_history.specs.Spelled.{NumbersBelow, numbers_of, spelled};
+ghost use Rattle.ipe_history.specs.Transcript.{transcript};
+ghost use Rattle.ipe_script.specs.declared.script.PhaseLine.{PhaseLine};
 ghost use Rattle.ipe_script.specs.Grammar.{requests_of};
 ghost use Rattle.ipe_script.specs.Script.{Script};
 ghost use Rattle.std.specs.List.{sum_by};
-ghost use Rattle.std.specs.Prelude.{◌≡◌, ℕ, ◌+◌, ◌≤◌, List, length, Ok};
+ghost use Rattle.std.specs.Prelude.{◌≡◌, ℕ, ◌+◌, ◌^◌, ◌≤◌, List, length, Ok};
 
 /// The order in which a file has its lines is an order that a transcript may have them in, and each line that has a place
 /// stands in it.
@@ -12,9 +15,18 @@ pub fn file_order_is_in_place()
 {}
 
 /// What is read of a request file has each phase's commands before its hooks, all in the order of the file, and has no more
-/// lines than the file has bytes, and one.
+/// lines than the file has bytes, and one. No line's number is higher than that.
 pub fn requests_are_in_file_order()
     ensures order { (input : List ℕ) (script : Script) → requests_of input ≡ Ok script → IsFileOrder script }
     ensures few { (input : List ℕ) (script : Script) → requests_of input ≡ Ok script →
         sum_by length script.phases ≤ length input + 1 }
+    ensures numbered { (input : List ℕ) (script : Script) → requests_of input ≡ Ok script →
+        NumbersBelow (length input + 2) script.phases }
+{}
+
+/// A transcript spells its own order: the numbers behind `line=`, line after line, are those of the order's lines, one after
+/// another.
+pub fn transcripts_spell_their_order()
+    ensures spells { (script : Script) (order : List (List PhaseLine)) → NumbersBelow (2 ^ 32) order →
+        spelled (transcript script order) ≡ numbers_of order }
 {}

@@ -1,4 +1,4 @@
-mod Numbers
+pub mod Numbers
 mod Words
 mod Lines
 mod Steps
