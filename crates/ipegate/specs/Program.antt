@@ -1,13 +1,13 @@
 -- What the program does with an input.
-use Rattle.std.specs.Prelude.{◌≡◌, ℕ, ◌<◌, ◌≤◌, Bool, true, false, codes, List, [], ◌∷◌, ◌++◌, length, take, Option, Some, IfSome, Result, Ok, Err, ◌⊎◌}
+use Rattle.std.specs.Prelude.{◌≡◌, ℕ, ◌<◌, ◌≤◌, codes, List, ◌++◌, length, take, Option, Some, IfSome, Ok, Err, ◌⊎◌}
 use Rattle.std.specs.Fmt.{decimal}
-use Rattle.ipe_policy.specs.Words.{is_text}
 use Rattle.ipe_words.specs.declared.status.Status.{Status}
 use Rattle.ipe_words.specs.declared.status.Status.TheVariants as status
 use Rattle.ipe_script.specs.declared.script.PhaseLine.{PhaseLine}
 use Rattle.ipe_script.specs.Script.{Script}
 use Rattle.ipe_script.specs.Grammar.{requests_of}
 use Rattle.ipe_history.specs.Order.{IsWeave, IsInPlace}
+use Rattle.ipe_history.specs.Spelled.{numbers_of, spelled}
 use Rattle.ipe_history.specs.Transcript.{transcript}
 use Rattle.ipe_transcript.specs.Lines.{line_text}
 
@@ -15,7 +15,7 @@ use Rattle.ipe_transcript.specs.Lines.{line_text}
 abbrev pub most_input : ℕ
 most_input = 16777216
 
--- the input asks for exactly this, and the text is the transcript of an order of its lines, each one's in that one's order, and each in its place
+-- the input asks for exactly this, and the text is the transcript of an order of its lines, each one's in that one's order, and each in its place; the order is the one that the written lines spell
 pub record IsReplay (input text : List ℕ) : Type 0 where
   pub script : Script
   pub order : List (List PhaseLine)
@@ -24,6 +24,7 @@ pub record IsReplay (input text : List ℕ) : Type 0 where
   pub weave : IsWeave script order
   pub in_place : IsInPlace script order
   pub bytes : text ≡ transcript script order
+  pub spells : spelled text ≡ numbers_of order
 
 -- the refusal of an input that is too long
 abbrev pub too_long_text : List ℕ
@@ -67,9 +68,3 @@ Writes IsText before after = IfSome before (λ written. (text : List ℕ) × IsT
 -- where the sink tells what is written, some first bytes of a text of this kind were added to it
 abbrev pub WritesPrefix : (List ℕ → Type 0) → Option (List ℕ) → Option (List ℕ) → Type 0
 WritesPrefix IsText before after = IfSome before (λ written. (text : List ℕ) × IsText text × (k : ℕ) × (k ≤ length text) × (after ≡ Some (written ++ take k text)))
-
--- the one form of words that the program knows
-abbrev pub is_replay : List (List ℕ) → Bool
-is_replay [] = false
-is_replay (word ∷ []) = is_text (codes "replay") word
-is_replay (word ∷ next ∷ words) = false

@@ -3,9 +3,11 @@
 //! [`run`] is the whole program over a source and a sink that are handed in. `main` hands it the standard streams.
 #![tactic(auto)]
 
+mod linter;
 mod run;
 
 use ipe_words::{Status, StdSink, StdSource};
+pub use linter::lint;
 pub use run::run;
 use std::env;
 use std::process::ExitCode;

@@ -1,7 +1,9 @@
 ghost use Rattle.std.specs.Prelude.{◌≡◌, ◌≢◌, ◌≤◌, ◌↔◌, ◌⊎◌, [], length, map, IfOk, IfSome, Some, true, false, string_bytes};
 ghost use Rattle.ipe_words.specs.Count.{Rose};
-ghost use Rattle.ipegate.specs.Program.{IsReplay, IsRefusal, IsAnswer, too_long_text, bad_line_text, Writes, WritesPrefix, is_replay};
+ghost use Rattle.ipegate.specs.Program.{IsReplay, IsRefusal, IsAnswer, too_long_text, bad_line_text, Writes, WritesPrefix};
+ghost use Rattle.ipegate.specs.Words.{asked_by, IsDone, IsRefused};
 
+use crate::lint;
 use ipe_replay::replay;
 use ipe_script::{ScriptError, ScriptKind, parse_requests};
 use ipe_words::{ReadAllError, Sink, Source, Status, read_all, write_all};
@@ -12,8 +14,9 @@ const MOST_INPUT: u64 = 16_777_216;
 
 /// The program: what its words ask, from the source to the sink.
 ///
-/// The one form of words is `replay`: the source is read to its end, and the transcript of its requests, or one line
-/// that says why they are refused, is written. All of it is made before the first byte is written.
+/// The one word is `replay` or `lint`: the source is read to its end, and the transcript of its requests, or what the linter
+/// says of its policy, or one line that says why the input is refused, is written. All of it is made before the first byte
+/// is written.
 pub fn run<S: Source, K: Sink>(
     alloc: Global,
     words: &Vec<String>,
@@ -21,21 +24,24 @@ pub fn run<S: Source, K: Sink>(
     sink: &mut K,
 ) -> Status
     // Other words are refused, and then nothing is read or written.
-    ensures usage { (result ≡ Status.Usage) ↔ (is_replay (map string_bytes words.now.items) ≡ false) }
+    ensures usage { (result ≡ Status.Usage) ↔ (asked_by (map string_bytes words.now.items) ≡ None) }
     ensures idle { result ≡ Status.Usage → (source.new ≡ source.old) × (sink.new ≡ sink.old) }
 
-    // Done: the source was read to its end, and what was written is the transcript of what it asks.
+    // Done: the source was read to its end, and what was written is what its input is answered with.
     ensures done_read { result ≡ Status.Done → IfSome (S.remaining source.old) (λ input. S.remaining source.new ≡ Some []) }
-    ensures done { result ≡ Status.Done → IfSome (S.remaining source.old) (λ input. Writes (IsReplay input) (K.written sink.old) (K.written sink.new)) }
+    ensures done { result ≡ Status.Done → IfSome (S.remaining source.old) (λ input.
+        Writes (IsDone (asked_by (map string_bytes words.now.items)) input) (K.written sink.old) (K.written sink.new)) }
 
-    // Refused: the input is too long, or has a first bad line, and one line says so.
-    ensures refused { result ≡ Status.Refused → IfSome (S.remaining source.old) (λ input. Writes (IsRefusal input) (K.written sink.old) (K.written sink.new)) }
+    // Refused: the input is too long, or has a first fault, and one line says so.
+    ensures refused { result ≡ Status.Refused → IfSome (S.remaining source.old) (λ input.
+        Writes (IsRefused (asked_by (map string_bytes words.now.items)) input) (K.written sink.old) (K.written sink.new)) }
 
     // Faults come only where they were counted.
     ensures read_fault { result ≡ Status.ReadFault → Rose (S.faults source.old) (S.faults source.new) }
     ensures write_fault { result ≡ Status.WriteFault → Rose (K.faults sink.old) (K.faults sink.new) }
     ensures write_prefix { result ≡ Status.WriteFault → IfSome (S.remaining source.old) (λ input.
-        WritesPrefix (λ text. IsReplay input text ⊎ IsRefusal input text) (K.written sink.old) (K.written sink.new)) }
+        WritesPrefix (λ text. IsDone (asked_by (map string_bytes words.now.items)) input text
+        ⊎ IsRefused (asked_by (map string_bytes words.now.items)) input text) (K.written sink.old) (K.written sink.new)) }
 
     // Without an answer nothing is written.
     ensures unread { result ≡ Status.ReadFault → sink.new ≡ sink.old }
@@ -44,6 +50,7 @@ pub fn run<S: Source, K: Sink>(
 {
     match words.as_slice() {
         [word] if word.as_str() == "replay" => run_replay(alloc, source, sink),
+        [word] if word.as_str() == "lint" => lint(alloc, source, sink),
         _ => Status::Usage,
     }
 }

@@ -150,23 +150,90 @@ fn faults_are_told(rt: HostRuntime) -> Result<(), Fail> {
     Ok(())
 }
 
+/// The status and what was written, with these words.
+fn answered(alloc: Global, words: &[&str], input: &[u8]) -> Result<(u8, Vec<u8>), AllocError> {
+    let mut owned = Vec::new(alloc);
+    for word in words {
+        owned.push(String::from_str(alloc, word)?)?;
+    }
+    let mut source = MemorySource::new(input.to_vec(alloc)?, 100, Vec::new(alloc));
+    let mut sink = MemorySink::new(alloc, 100, 4096, Vec::new(alloc))?;
+    let status = run(alloc, &owned, &mut source, &mut sink);
+    Ok((status.number(), sink.written().to_vec(alloc)?))
+}
+
 #[test]
 fn other_words_are_refused(rt: HostRuntime) -> Result<(), Fail> {
-    let alloc = rt.alloc();
-    for listed in [
-        [].as_slice(),
-        ["repeat"].as_slice(),
-        ["replay", "replay"].as_slice(),
+    let (none, written) = answered(rt.alloc(), &[], b"")?;
+    assert_eq!(rt; none, 2);
+    assert_eq!(rt; written.len(), 0);
+    let (other, written) = answered(rt.alloc(), &["repeat"], b"")?;
+    assert_eq!(rt; other, 2);
+    assert_eq!(rt; written.len(), 0);
+    let (twice, written) = answered(rt.alloc(), &["replay", "replay"], b"")?;
+    assert_eq!(rt; twice, 2);
+    assert_eq!(rt; written.len(), 0);
+    Ok(())
+}
+
+const SEVEN_DEFAULTS: &str = "policy_name=d policy_version=1.0.0
+DEFAULT op=EXECUTE action=DENY
+DEFAULT op=FIRMWARE action=DENY
+DEFAULT op=KMODULE action=DENY
+DEFAULT op=KEXEC_IMAGE action=DENY
+DEFAULT op=KEXEC_INITRAMFS action=DENY
+DEFAULT op=POLICY action=DENY
+DEFAULT op=X509_CERT action=DENY
+";
+
+const EIGHT_DEFAULTS: &str = "policy_name=d policy_version=1.0.0
+DEFAULT op=EXECUTE action=DENY
+DEFAULT op=FIRMWARE action=DENY
+DEFAULT op=KMODULE action=DENY
+DEFAULT op=KEXEC_IMAGE action=DENY
+DEFAULT op=KEXEC_INITRAMFS action=DENY
+DEFAULT op=POLICY action=DENY
+DEFAULT op=X509_CERT action=DENY
+DEFAULT op=POLICY action=ALLOW
+";
+
+const ONE_RULE: &str = "policy_name=a policy_version=1.0.0
+DEFAULT action=DENY
+op=EXECUTE boot_verified=TRUE action=ALLOW
+";
+
+const TWO_DEFAULTS: &str = "policy_name=a policy_version=1.0.0
+DEFAULT action=DENY
+DEFAULT action=DENY
+op=EXECUTE boot_verified=TRUE action=ALLOW
+";
+
+const HEADER_THE_OTHER_WAY: &str = "policy_version=1.0.0 policy_name=a
+DEFAULT action=DENY
+";
+
+#[test]
+fn policies_are_linted(rt: HostRuntime) -> Result<(), Fail> {
+    for (text, status, answer) in [
+        (ONE_RULE, 0, "ok a 1.0.0 rules=1 words=27\n"),
+        (SEVEN_DEFAULTS, 0, "ok d 1.0.0 rules=0 words=25\n"),
+        (EIGHT_DEFAULTS, 3, "refused line 9: TwiceDefault\n"),
+        (TWO_DEFAULTS, 3, "refused line 3: TwiceDefault\n"),
+        (HEADER_THE_OTHER_WAY, 3, "refused line 1: NoHeader\n"),
+        (
+            "policy_name=a policy_version=1.0.0\n",
+            3,
+            "refused: no default for EXECUTE\n",
+        ),
+        (
+            "policy_name=a policy_version=65536.0.0\n",
+            3,
+            "refused line 1: BadVersion\n",
+        ),
     ] {
-        let mut words = Vec::new(alloc);
-        for word in listed {
-            words.push(String::from_str(alloc, word)?)?;
-        }
-        let mut source = MemorySource::new(Vec::new(alloc), 100, Vec::new(alloc));
-        let mut sink = MemorySink::new(alloc, 100, 100, Vec::new(alloc))?;
-        let status = run(alloc, &words, &mut source, &mut sink);
-        assert_eq!(rt; status.number(), 2);
-        assert_eq!(rt; sink.written().len(), 0);
+        let (found, written) = answered(rt.alloc(), &["lint"], text.as_bytes())?;
+        assert_eq!(rt; found, status, "{text}");
+        assert_eq!(rt; written.as_slice(), answer.as_bytes(), "{text}");
     }
     Ok(())
 }

@@ -1,7 +1,17 @@
-use Rattle.std.proofs.Common.{arith}
+use Rattle.std.proofs.Common.{◌≡◌, ℕ, ◌+◌, ◌≤◌, ◌^◌, List, length, Ok, ap, ◌∙◌, arith}
+use Rattle.ipe_script.specs.Grammar.{requests_of}
+use Rattle.ipe_script.specs.Script.{Script}
+use Rattle.ipe_history.specs.Spelled.{numbers_of, spelled}
+use Rattle.ipe_history.specs.Transcript.{transcript}
 use Rattle.ipe_history.proofs.FileOrder.{file_order_in_place, file_order_weaves}
-use Rattle.ipe_history.proofs.Reading.{requests_in_order, requests_few}
+use Rattle.ipe_history.proofs.Reading.{NumbersBelow-more, requests_in_order, requests_few, requests_numbered}
+use Rattle.ipe_history.proofs.Spelling.{transcript_spelled}
 use Rattle.ipegate.proofs.run.answer_to.Goals as goal
+
+-- the transcript of what is read of an input within the limit spells the order of the file
+spells_order : (input text : List ℕ) (script : Script) → length input ≤ 16777216 → requests_of input ≡ Ok script → text ≡ transcript script script.phases → spelled text ≡ numbers_of script.phases
+spells_order input text script fits asks bytes =
+    ap spelled bytes ∙ transcript_spelled script script.phases (NumbersBelow-more (length input + 2) (2 ^ 32) script.phases (omega arith) (requests_numbered input script asks))
 
 pub replay-requires : goal.replay-requires
 replay-requires c = omega (arith, c.requires, requests_few c.args.input.now c.in-Ok.requests c.in-Ok.ensures)
@@ -15,4 +25,5 @@ returns-in_ok-replay-in-Ok c = record {
   weave = file_order_weaves c.in-Ok.requests;
   in_place = file_order_in_place c.in-Ok.requests (requests_in_order c.args.input.now c.in-Ok.requests c.in-Ok.ensures);
   bytes = c.in_ok-replay-in-Ok.ensures;
+  spells = spells_order c.args.input.now _ c.in-Ok.requests c.requires c.in-Ok.ensures c.in_ok-replay-in-Ok.ensures;
 }

@@ -1,0 +1,75 @@
+-- What the linter writes of a policy's text.
+use Rattle.std.specs.Prelude.{◌≡◌, ℕ, ◌<◌, ◌≤◌, codes, List, ◌++◌, length, Ok, Err, ◌⊎◌}
+use Rattle.std.specs.List.{filter_map}
+use Rattle.std.specs.Fmt.{decimal}
+use Rattle.ipe_policy.specs.Statement.{rule_of}
+use Rattle.ipe_policy.specs.Policy.{PolicyParts}
+use Rattle.ipe_policy.specs.Spelling.{op_word, version_text, words_of_image}
+use Rattle.ipe_parse.specs.declared.error.BadKind.{BadKind}
+use Rattle.ipe_parse.specs.declared.error.BadKind.TheVariants.{NoHeader, BadName, BadVersion, BadOp, BadAction, PropertyInDefault, TwiceDefault, TooManyProperties, BadProperty, BadDigest}
+use Rattle.ipe_parse.specs.declared.error.BadText.{BadText}
+use Rattle.ipe_parse.specs.declared.error.BadText.TheVariants.{Bad, NoDefault}
+use Rattle.ipe_parse.specs.Reading.{reading}
+use Rattle.ipe_words.specs.declared.status.Status.{Status}
+use Rattle.ipe_words.specs.declared.status.Status.TheVariants as status
+use Rattle.ipe_transcript.specs.Lines.{line_text}
+
+-- the most bytes of a policy's text
+abbrev pub most_policy_text : ℕ
+most_policy_text = 1048576
+
+-- a policy's name, version, number of rules and number of image words
+abbrev pub lint_text : PolicyParts → List ℕ
+lint_text policy = codes "ok " ++ policy.name ++ (codes " " ++ version_text policy.version ++ codes " rules=" ++ decimal (length (filter_map rule_of policy.items)) ++ codes " words=" ++ decimal (words_of_image policy.items) ++ line_text (codes ""))
+
+-- the name of a kind of fault
+abbrev pub kind_name : BadKind → List ℕ
+kind_name NoHeader = codes "NoHeader"
+kind_name BadName = codes "BadName"
+kind_name BadVersion = codes "BadVersion"
+kind_name BadOp = codes "BadOp"
+kind_name BadAction = codes "BadAction"
+kind_name PropertyInDefault = codes "PropertyInDefault"
+kind_name TwiceDefault = codes "TwiceDefault"
+kind_name TooManyProperties = codes "TooManyProperties"
+kind_name BadProperty = codes "BadProperty"
+kind_name BadDigest = codes "BadDigest"
+
+-- the refusal of a text by its first fault
+abbrev pub fault_text : BadText → List ℕ
+fault_text (Bad line kind) = codes "refused line " ++ decimal line ++ codes ": " ++ kind_name kind ++ line_text (codes "")
+fault_text (NoDefault missing) = codes "refused: no default for " ++ op_word missing ++ line_text (codes "")
+
+-- the text reads as a policy, and what is written tells it
+pub record IsLinted (input text : List ℕ) : Type 0 where
+  pub policy : PolicyParts
+  pub fits : length input ≤ most_policy_text
+  pub reads : reading input ≡ Ok policy
+  pub bytes : text ≡ lint_text policy
+
+-- the text has a first fault, and what is written names it
+pub record IsFaulty (input text : List ℕ) : Type 0 where
+  pub fault : BadText
+  pub fits : length input ≤ most_policy_text
+  pub faulty : reading input ≡ Err fault
+  pub bytes : text ≡ fault_text fault
+
+-- an input above the limit is refused as too long
+pub record IsTooLongText (input text : List ℕ) : Type 0 where
+  pub long : most_policy_text < length input
+  pub bytes : text ≡ line_text (codes "refused: too long")
+
+-- why an input is refused
+abbrev pub IsLintRefusal : List ℕ → List ℕ → Type 0
+IsLintRefusal input text = IsTooLongText input text ⊎ IsFaulty input text
+
+-- the text that an input is answered with, by the status of the answer
+abbrev pub IsLintAnswer : List ℕ → Status → List ℕ → Type 0
+IsLintAnswer input status.Done text = IsLinted input text
+IsLintAnswer input status.No text = ⊥
+IsLintAnswer input status.Usage text = ⊥
+IsLintAnswer input status.Refused text = IsLintRefusal input text
+IsLintAnswer input status.ReadFault text = ⊥
+IsLintAnswer input status.WriteFault text = ⊥
+IsLintAnswer input status.DeviceFault text = ⊥
+IsLintAnswer input status.NoMemory text = ⊥
