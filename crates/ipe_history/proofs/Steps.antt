@@ -6,7 +6,7 @@ use Rattle.ipe_policy.specs.Words.{is_text}
 use Rattle.ipe_policy.specs.declared.request.Subject.{Subject}
 use Rattle.ipe_parse.specs.Reading.{reading}
 use Rattle.std.proofs.lemmas.Bool.{false≢true}
-use Rattle.ipe_policy.specs.declared.request.Request.TheVariants as request
+use Rattle.ipe_policy.specs.declared.request.Request.{Request}
 use Rattle.ipe_script.specs.declared.script.PhaseLine.{PhaseLine}
 use Rattle.ipe_script.specs.declared.script.Task.{Task}
 use Rattle.ipe_script.specs.declared.script.Task.TheVariants.{Load, Activate, Hook}
@@ -14,7 +14,7 @@ use Rattle.ipe_script.specs.declared.form.Form.{Form}
 use Rattle.ipe_script.specs.declared.form.Form.TheVariants as form
 use Rattle.ipe_script.specs.Script.{actor_of_task, bytes_of}
 use Rattle.ipe_script.specs.Forms.{form_of, when}
-use Rattle.ipe_script.specs.Grammar.{Stage, at_start, at_workers, in_text, in_texts, in_files, in_marks, in_phase, at_end, Progress, open_text, may_command, may_hook, may_declare_text, may_declare_file, may_mark, may_begin_phase, text_place, file_place, size_of, most_texts, most_files, most_marks, most_phases, most_commands, most_hooks, most_work, most_policy, onto_last, with_line, declare_text, declare_file, mark_text, begin_phase, add_load, add_activation, add_exec, with_form, with_formed, at_stage, next}
+use Rattle.ipe_script.specs.Grammar.{Stage, at_start, at_workers, in_text, in_texts, in_files, in_marks, in_phase, at_end, Progress, open_text, may_command, may_hook, may_declare_text, may_declare_file, may_mark, may_begin_phase, text_place, file_place, file_named, work_of, most_texts, most_files, most_marks, most_phases, most_commands, most_hooks, most_work, most_policy, onto_last, with_line, declare_text, declare_file, mark_text, begin_phase, add_load, add_activation, add_hook, with_form, with_formed, at_stage, next}
 use Rattle.ipe_history.proofs.Phases.{ArePhases, LastCommands, count_lines, ArePhases-more, ArePhases-hook, ArePhases-command, LastCommands-command, ArePhases-begin, LastCommands-begin, count_lines-onto_last, count_lines-begin}
 
 -- in a phase without hooks so far the last phase has only commands
@@ -99,10 +99,10 @@ with_load progress number place =
 abbrev with_activation : Progress → ℕ → List ℕ → Progress
 with_activation progress number name = with_line (record progress { commands = progress.commands + 1 }) false number (Activate name)
 
--- the lines so far with a program check
-abbrev with_exec : Progress → ℕ → Subject → ℕ → Progress
-with_exec progress number subject place =
-    with_line (record progress { hooks = progress.hooks + 1; work = progress.work + size_of progress.script place }) true number (Hook request.ExecCheck subject (Some place))
+-- the lines so far with a hook
+abbrev with_hook : Progress → ℕ → Request → Subject → Option ℕ → Progress
+with_hook progress number asked subject file =
+    with_line (record progress { hooks = progress.hooks + 1; work = progress.work + work_of progress.script asked file }) true number (Hook asked subject file)
 
 module _ (number : ℕ) (progress : Progress) (sound : IsSound number progress) where
   -- a line that adds nothing to the phases
@@ -204,27 +204,27 @@ module _ (number : ℕ) (progress : Progress) (sound : IsSound number progress) 
   hook_order task hook =
       ArePhases-hook number (number + 1) progress.script.phases (record { line = number + 1; task = task }) sound.order (omega arith) (omega arith) hook
 
-  -- a program check's line
-  exec_line : (subject : Subject) (place : ℕ) → IsSound (number + 1) (with_exec progress (number + 1) subject place)
-  exec_line subject place = record {
-    order = hook_order (Hook request.ExecCheck subject (Some place)) refl;
-    few = line_few (record { line = number + 1; task = Hook request.ExecCheck subject (Some place) });
+  -- it is added, whatever it asks
+  hook_line : (asked : Request) (subject : Subject) (file : Option ℕ) → IsSound (number + 1) (with_hook progress (number + 1) asked subject file)
+  hook_line asked subject file = record {
+    order = hook_order (Hook asked subject file) refl;
+    few = line_few (record { line = number + 1; task = Hook asked subject file });
     unhooked = tt;
   }
 
-  -- the program check of a file that is there, where it fits
-  exec_there : Subject → ℕ → Option Progress
-  exec_there subject place =
-      when (nat_lt progress.hooks most_hooks && nat_le (progress.work + size_of progress.script place) most_work) (Some (with_exec progress (number + 1) subject place))
+  -- the hook on a file that is there or on none, where it fits
+  hook_there : Request → Subject → Option ℕ → Option Progress
+  hook_there asked subject file =
+      when (nat_lt progress.hooks most_hooks && nat_le (progress.work + work_of progress.script asked file) most_work) (Some (with_hook progress (number + 1) asked subject file))
 
-  -- a program check
-  exec_sound : (subject : Subject) (path : List ℕ) → Found (IsSound (number + 1)) (add_exec progress (number + 1) subject path)
-  unfolding exec_there
-  exec_sound subject path =
-      found_when (IsSound (number + 1)) (may_hook progress.stage) (option_and_then (exec_there subject) (file_place progress.script path))
-      (λ may. found_and_then (IsSound (number + 1)) (exec_there subject) (file_place progress.script path) (λ place.
-      found_when (IsSound (number + 1)) (nat_lt progress.hooks most_hooks && nat_le (progress.work + size_of progress.script place) most_work)
-      (Some (with_exec progress (number + 1) subject place)) (λ fits. exec_line subject place)))
+  -- a hook
+  hook_sound : (asked : Request) (subject : Subject) (path : Option (List ℕ)) → Found (IsSound (number + 1)) (add_hook progress (number + 1) asked subject path)
+  unfolding hook_there
+  hook_sound asked subject path =
+      found_when (IsSound (number + 1)) (may_hook progress.stage) (option_and_then (hook_there asked subject) (file_named progress.script path))
+      (λ may. found_and_then (IsSound (number + 1)) (hook_there asked subject) (file_named progress.script path) (λ file.
+      found_when (IsSound (number + 1)) (nat_lt progress.hooks most_hooks && nat_le (progress.work + work_of progress.script asked file) most_work)
+      (Some (with_hook progress (number + 1) asked subject file)) (λ fits. hook_line asked subject file)))
 
   -- a line of each form
   form_sound : (read : Form) → Found (IsSound (number + 1)) (with_form progress (number + 1) read)
@@ -234,7 +234,7 @@ module _ (number : ℕ) (progress : Progress) (sound : IsSound number progress) 
   form_sound form.Phase = phase_sound
   form_sound (form.Load text) = load_sound text
   form_sound (form.Activate name) = activation_sound name
-  form_sound (form.Exec subject path) = exec_sound subject path
+  form_sound (form.Hook asked subject path) = hook_sound asked subject path
   form_sound form.End =
       found_when (IsSound (number + 1)) (may_begin_phase progress.stage) (Some (record progress { stage = at_end })) (λ may. record { order = kept_order; few = kept_few; unhooked = tt })
 

@@ -2,9 +2,13 @@
 use Rattle.std.specs.Prelude.{ℕ, ◌-◌, ◌==◌, ◌&&◌, ◌||◌, Bool, true, false, not, nat_le, if◌then◌else◌, codes, List, [], ◌∷◌, length, map, take, drop, Option, Some, None, slice_index}
 use Rattle.std.specs.Borrow.{Bor}
 use Rattle.std.specs.List.{slice_split}
-use Rattle.std.specs.Option.{option_map, option_or}
+use Rattle.std.specs.Option.{option_map, option_and_then, option_or}
 use Rattle.ipe_policy.specs.Words.{is_text, is_word, is_digit, is_dev_name, is_path, is_name, is_comm}
 use Rattle.ipe_policy.specs.Version.{digits_onto}
+use Rattle.ipe_policy.specs.declared.request.Kind.{Kind}
+use Rattle.ipe_policy.specs.declared.request.Kind.TheVariants.{Firmware, Module, KexecImage, KexecInitramfs, Policy, X509}
+use Rattle.ipe_policy.specs.declared.request.Request.{Request}
+use Rattle.ipe_policy.specs.declared.request.Request.TheVariants as request
 use Rattle.ipe_script.specs.declared.form.Form.{Form}
 use Rattle.ipe_script.specs.declared.form.Form.TheVariants as form
 
@@ -78,11 +82,66 @@ activate_form who verb node kind word =
     when (is_text (codes "admin") who && is_text (codes "write") verb && is_text (codes "echo") kind && is_text (codes "1") word)
     (option_map form.Activate (node_name node))
 
+-- the greatest process id, and the greatest protection of a mapping
+abbrev pub most_word : ℕ
+most_word = 4294967295
+
+-- the kind of file that a word names
+unfoldable pub kind_of : List ℕ → Option Kind
+kind_of word =
+    if is_text (codes "firmware") word then Some Firmware
+    else if is_text (codes "module") word then Some Module
+    else if is_text (codes "kexec-image") word then Some KexecImage
+    else if is_text (codes "kexec-initramfs") word then Some KexecInitramfs
+    else if is_text (codes "policy") word then Some Policy
+    else if is_text (codes "x509") word then Some X509
+    else None
+
+-- whether the mapping is executable already: 0 or 1
+unfoldable pub was_of : List ℕ → Option Bool
+was_of word = if is_text (codes "0") word then Some false else if is_text (codes "1") word then Some true else None
+
+-- a path, or a dash for no file
+unfoldable pub path_or_none : List ℕ → Option (Option (List ℕ))
+path_or_none word = if is_text (codes "-") word then Some None else when (is_path word) (Some (Some word))
+
+-- the hook of a request by the task of a process id and a name, on the file of a path or on none
+unfoldable pub hook_of : Request → List ℕ → List ℕ → Option (List ℕ) → Option Form
+hook_of asked pid comm path =
+    when (is_comm comm) (option_map (λ number. form.Hook asked (record { pid = number; comm = comm }) path) (number_of most_word pid))
+
+-- a line of worker 1 with this hook
+abbrev pub is_hook_line : List ℕ → List ℕ → List ℕ → Bool
+is_hook_line hook who word = is_text (codes "w1") who && is_text hook word
+
 -- `w1 exec PID COMM PATH`
 unfoldable pub exec_form : List ℕ → List ℕ → List ℕ → List ℕ → List ℕ → Option Form
 exec_form who hook pid comm path =
-    when (is_text (codes "w1") who && is_text (codes "exec") hook && is_comm comm && is_path path)
-    (option_map (λ number. form.Exec (record { pid = number; comm = comm }) path) (number_of 4294967295 pid))
+    when (is_hook_line (codes "exec") who hook && is_path path) (hook_of request.ExecCheck pid comm (Some path))
+
+-- `w1 mmap PID COMM PROT PATH`
+unfoldable pub mmap_form : List ℕ → List ℕ → List ℕ → List ℕ → List ℕ → List ℕ → Option Form
+mmap_form who hook pid comm prot path =
+    when (is_hook_line (codes "mmap") who hook && is_path path)
+    (option_and_then (λ bits. hook_of (request.Mmap bits) pid comm (Some path)) (number_of most_word prot))
+
+-- `w1 mprotect PID COMM WAS PROT PATH`
+unfoldable pub mprotect_form : List ℕ → List ℕ → List ℕ → List ℕ → List ℕ → List ℕ → List ℕ → Option Form
+mprotect_form who hook pid comm was prot path =
+    when (is_hook_line (codes "mprotect") who hook)
+    (option_and_then (λ was_exec. option_and_then (λ bits. option_and_then (λ file. hook_of (request.Mprotect was_exec bits) pid comm file)
+    (path_or_none path)) (number_of most_word prot)) (was_of was))
+
+-- `w1 read PID COMM KIND PATH`
+unfoldable pub kernel_read_form : List ℕ → List ℕ → List ℕ → List ℕ → List ℕ → List ℕ → Option Form
+kernel_read_form who hook pid comm kind path =
+    when (is_hook_line (codes "read") who hook && is_path path)
+    (option_and_then (λ named. hook_of (request.KernelRead named) pid comm (Some path)) (kind_of kind))
+
+-- `w1 load PID COMM KIND`
+unfoldable pub kernel_load_form : List ℕ → List ℕ → List ℕ → List ℕ → List ℕ → Option Form
+kernel_load_form who hook pid comm kind =
+    when (is_hook_line (codes "load") who hook) (option_and_then (λ named. hook_of (request.KernelLoad named) pid comm None) (kind_of kind))
 
 -- the form of a line behind the first two
 abbrev pub form_of_words : List (List ℕ) → Option Form
@@ -90,8 +149,12 @@ form_of_words (key ∷ []) = lone_form key
 form_of_words (key ∷ id ∷ lines ∷ []) = text_form key id lines
 form_of_words (one ∷ two ∷ three ∷ four ∷ five ∷ []) =
     option_or (mark_form one two three four five)
-    (option_or (load_form one two three four five) (option_or (activate_form one two three four five) (exec_form one two three four five)))
-form_of_words (key ∷ path ∷ kind ∷ dev ∷ ino ∷ text ∷ []) = file_form key path kind dev ino text
+    (option_or (load_form one two three four five)
+    (option_or (activate_form one two three four five)
+    (option_or (exec_form one two three four five) (kernel_load_form one two three four five))))
+form_of_words (one ∷ two ∷ three ∷ four ∷ five ∷ six ∷ []) =
+    option_or (file_form one two three four five six) (option_or (mmap_form one two three four five six) (kernel_read_form one two three four five six))
+form_of_words (who ∷ hook ∷ pid ∷ comm ∷ was ∷ prot ∷ path ∷ []) = mprotect_form who hook pid comm was prot path
 form_of_words other = None
 
 unfoldable pub form_of : List ℕ → Option Form

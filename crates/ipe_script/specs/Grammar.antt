@@ -3,6 +3,7 @@ use Rattle.std.specs.Prelude.{ℕ, zero, suc, ◌+◌, ◌-◌, ◌==◌, ◌&&�
 use Rattle.std.specs.List.{slice_split}
 use Rattle.std.specs.Option.{option_map, option_map_or, option_and_then}
 use Rattle.ipe_policy.specs.Words.{is_text}
+use Rattle.ipe_policy.specs.declared.request.Request.{Request}
 use Rattle.ipe_policy.specs.declared.request.Request.TheVariants as request
 use Rattle.ipe_policy.specs.declared.request.Subject.{Subject}
 use Rattle.ipe_parse.specs.Reading.{reading}
@@ -174,15 +175,33 @@ add_activation progress number name =
 abbrev pub size_of : Script → ℕ → ℕ
 size_of script place = size_at script.files script.texts place
 
--- a program check of a file that is there
-abbrev pub add_exec : Progress → ℕ → Subject → List ℕ → Option Progress
-add_exec progress number subject path =
+-- the place of the file that is named, if one is; nothing where it isn't there
+abbrev pub file_named : Script → Option (List ℕ) → Option (Option ℕ)
+file_named script None = Some None
+file_named script (Some path) = option_map (λ place. Some place) (file_place script path)
+
+-- a program check or a kernel read reads the file
+abbrev pub reads_file : Request → Bool
+reads_file request.ExecCheck = true
+reads_file (request.Mmap prot) = false
+reads_file (request.Mprotect was_exec prot) = false
+reads_file (request.KernelRead kind) = true
+reads_file (request.KernelLoad kind) = false
+
+-- the bytes that a hook reads
+abbrev pub work_of : Script → Request → Option ℕ → ℕ
+work_of script asked None = 0
+work_of script asked (Some place) = if reads_file asked then size_of script place else 0
+
+-- a hook of worker 1, on a file that is there or on none
+abbrev pub add_hook : Progress → ℕ → Request → Subject → Option (List ℕ) → Option Progress
+add_hook progress number asked subject path =
     when (may_hook progress.stage)
-    (option_and_then (λ place.
-    let size = size_of progress.script place in
-    when (nat_lt progress.hooks most_hooks && nat_le (progress.work + size) most_work)
-    (Some (with_line (record progress { hooks = progress.hooks + 1; work = progress.work + size }) true number (Hook request.ExecCheck subject (Some place)))))
-    (file_place progress.script path))
+    (option_and_then (λ file.
+    let work = work_of progress.script asked file in
+    when (nat_lt progress.hooks most_hooks && nat_le (progress.work + work) most_work)
+    (Some (with_line (record progress { hooks = progress.hooks + 1; work = progress.work + work }) true number (Hook asked subject file))))
+    (file_named progress.script path))
 
 -- the file's last line
 abbrev pub end_file : Progress → Option Progress
@@ -196,7 +215,7 @@ with_form progress number (form.Mark text) = mark_text progress text
 with_form progress number form.Phase = begin_phase progress
 with_form progress number (form.Load text) = add_load progress number text
 with_form progress number (form.Activate name) = add_activation progress number name
-with_form progress number (form.Exec subject path) = add_exec progress number subject path
+with_form progress number (form.Hook asked subject path) = add_hook progress number asked subject path
 with_form progress number form.End = end_file progress
 
 -- a line behind the first two, outside of a text

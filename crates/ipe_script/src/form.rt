@@ -1,14 +1,15 @@
 ghost use Rattle.std.specs.Prelude.{◌≡◌, ◌≤◌, ◌&&◌, codes, count_by, IfOk, IfSome};
 ghost use Rattle.ipe_policy.specs.Words.{is_text};
-ghost use Rattle.ipe_script.specs.Forms.{lone_form, text_form, file_form, mark_form, load_form, activate_form, exec_form, node_name, number_of, form_of_words, is_blank, words_of, form_of, seen};
+ghost use Rattle.ipe_script.specs.Forms.{lone_form, text_form, file_form, mark_form, load_form, activate_form, node_name, number_of, form_of_words, is_blank, words_of, form_of, seen};
 
-use ipe_policy::{Comm, DevName, Name, PathName, Subject};
+use crate::hook_form::{exec_line, kernel_load_line, kernel_read_line, mmap_line, mprotect_line};
+use ipe_policy::{DevName, Name, PathName, Request, Subject};
 use ipe_words::decimal;
 use std::alloc::{AllocError, Global};
 
 const MOST_LINES: u64 = 1_048_576;
 
-const MOST_WORDS: usize = 6;
+const MOST_WORDS: usize = 7;
 
 /// What a line of a request file says, behind the first two lines and outside of a text.
 #[derive(Debug, Drop)]
@@ -19,11 +20,11 @@ pub enum Form {
     Phase,
     Load(DevName),
     Activate(Name),
-    Exec(Subject, PathName),
+    Hook(Request, Subject, Option<PathName>),
     End,
 }
 
-fn number(word: &[u8], most: u64) -> Option<u64>
+pub fn number(word: &[u8], most: u64) -> Option<u64>
     ensures number { result ≡ number_of most word.now }
     ensures within { IfSome result (λ n. n ≤ most) }
 {
@@ -61,12 +62,6 @@ fn is_written_one(who: &[u8], verb: &[u8], kind: &[u8], word: &[u8]) -> bool
         && verb == b"write".as_slice()
         && kind == b"echo".as_slice()
         && word == b"1".as_slice()
-}
-
-fn is_first_worker_exec(who: &[u8], hook: &[u8]) -> bool
-    ensures { result ≡ (is_text (codes "w1") who.now && is_text (codes "exec") hook.now) }
-{
-    who == b"w1".as_slice() && hook == b"exec".as_slice()
 }
 
 // `phase` and `end`
@@ -161,20 +156,6 @@ fn activate_line(who: &[u8], verb: &[u8], node: &[u8], kind: &[u8], word: &[u8])
     Some(Form::Activate(name_in(node)?))
 }
 
-// `w1 exec PID COMM PATH`
-#[tactic(auto, unfolding(crate::specs::Forms::exec_form))]
-fn exec_line(who: &[u8], hook: &[u8], pid: &[u8], comm: &[u8], path: &[u8]) -> Option<Form>
-    ensures { result ≡ exec_form who.now hook.now pid.now comm.now path.now }
-{
-    if !is_first_worker_exec(who, hook) {
-        return None;
-    }
-    let comm = Comm::read(comm)?;
-    let path = PathName::read(path)?;
-    let pid = number(pid, u64::from(u32::MAX))? as u32;
-    Some(Form::Exec(Subject { pid, comm }, path))
-}
-
 fn form_of_words(words: &[&[u8]]) -> Option<Form>
     ensures { result ≡ form_of_words (seen words.now) }
 {
@@ -184,8 +165,14 @@ fn form_of_words(words: &[&[u8]]) -> Option<Form>
         [one, two, three, four, five] => mark_line(one, two, three, four, five)
             .or(load_line(one, two, three, four, five))
             .or(activate_line(one, two, three, four, five))
-            .or(exec_line(one, two, three, four, five)),
-        [key, path, kind, dev, ino, text] => file_line(key, path, kind, dev, ino, text),
+            .or(exec_line(one, two, three, four, five))
+            .or(kernel_load_line(one, two, three, four, five)),
+        [one, two, three, four, five, six] => file_line(one, two, three, four, five, six)
+            .or(mmap_line(one, two, three, four, five, six))
+            .or(kernel_read_line(one, two, three, four, five, six)),
+        [who, hook, pid, comm, was, prot, path] => {
+            mprotect_line(who, hook, pid, comm, was, prot, path)
+        }
         _ => None,
     }
 }

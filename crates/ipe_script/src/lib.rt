@@ -3,6 +3,7 @@
 
 mod declarations;
 mod form;
+mod hook_form;
 mod reader;
 mod script;
 mod stage;

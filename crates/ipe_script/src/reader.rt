@@ -1,7 +1,7 @@
 ghost use Rattle.std.specs.Prelude.{◌≡◌, ◌≤◌, ◌++◌, ◌∷◌, [], length, position, is_ok, IfOk, IfNone, IfSome, OnOk};
 ghost use Rattle.std.specs.List.{slice_split};
 ghost use Rattle.ipe_parse.specs.Reading.{reading};
-ghost use Rattle.ipe_script.specs.Grammar.{requests_of, is_line_feed};
+ghost use Rattle.ipe_script.specs.Grammar.{requests_of, is_line_feed, reads_file};
 ghost use Rattle.ipe_script.specs.Answers.{AsksOrFails, CutsLine};
 
 use crate::declarations::{Files, Texts};
@@ -96,7 +96,8 @@ impl Model for Reader {
 
 impl Reader {
     ghost use Rattle.std.specs.Prelude.{◌≡◌, ◌∷◌, [], IfOk, IsTrue, OnOk, None, false};
-    ghost use Rattle.ipe_script.specs.Grammar.{next, with_form, with_formed, raw_line, open_text, text_place, at_first, at_end, declare_text, declare_file, mark_text, begin_phase, add_load, add_activation, add_exec, end_file, with_line, may_hook, is_ended};
+    ghost use Rattle.std.specs.Option.{option_copied};
+    ghost use Rattle.ipe_script.specs.Grammar.{next, with_form, with_formed, raw_line, open_text, text_place, at_first, at_end, declare_text, declare_file, mark_text, begin_phase, add_load, add_activation, add_hook, end_file, file_named, work_of, with_line, may_hook, is_ended};
     ghost use Rattle.ipe_script.specs.Reader.{Takes};
 
     fn new(alloc: Global) -> Reader
@@ -200,7 +201,7 @@ impl Reader {
             Form::Phase => self.begin_phase(alloc),
             Form::Load(text) => self.add_load(alloc, number, &text),
             Form::Activate(name) => self.add_activation(number, name),
-            Form::Exec(subject, path) => self.add_exec(number, subject, &path),
+            Form::Hook(request, subject, path) => { self.add_hook(number, request, subject, path) }
             Form::End => self.end(alloc),
         }
     }
@@ -355,22 +356,43 @@ impl Reader {
         Ok(true)
     }
 
-    fn add_exec(
+    // The place of the file that is named, if one is.
+    fn file_named(&self, path: Option<&PathName>) -> Option<Option<usize>>
+        ensures { result ≡ file_named self.now.script (option_copied path.entry) }
+    {
+        match path {
+            Some(path) => Some(Some(self.files.place_of(path.as_slice())?)),
+            None => Some(None),
+        }
+    }
+
+    // The bytes that a hook reads.
+    fn work_of(&self, request: Request, file: Option<usize>) -> u64
+        ensures { result ≡ work_of self.now.script request file }
+    {
+        match file {
+            Some(place) if reads_file(request) => self.files.size_at(&self.texts, place) as u64,
+            _ => 0,
+        }
+    }
+
+    fn add_hook(
         &mut self,
         number: u32,
+        request: Request,
         subject: Subject,
-        path: &PathName,
+        path: Option<PathName>,
     ) -> Result<bool, AllocError>
-        ensures { IfOk result (Takes (add_exec self.old number subject path.now) self.new) }
+        ensures { IfOk result (Takes (add_hook self.old number request subject path) self.new) }
     {
         if !self.stage.may_hook() || self.hooks >= MOST_HOOKS {
             return Ok(false);
         }
-        let Some(place) = self.files.place_of(path.as_slice()) else {
+        let Some(file) = self.file_named(path.as_ref()) else {
             return Ok(false);
         };
-        let size = self.files.size_at(&self.texts, place);
-        if size as u64 > MOST_WORK - self.work {
+        let work = self.work_of(request, file);
+        if work > MOST_WORK - self.work {
             return Ok(false);
         }
         self.add_line(
@@ -378,14 +400,14 @@ impl Reader {
             PhaseLine {
                 line: number,
                 task: Task::Hook {
-                    request: Request::ExecCheck,
+                    request,
                     subject,
-                    file: Some(place),
+                    file,
                 },
             },
         )?;
         self.hooks += 1;
-        self.work += size as u64;
+        self.work += work;
         Ok(true)
     }
 
@@ -414,6 +436,13 @@ impl Reader {
             phases,
         }
     }
+}
+
+// A program check or a kernel read reads the file.
+fn reads_file(request: Request) -> bool
+    ensures { result ≡ reads_file request }
+{
+    matches!(request, Request::ExecCheck | Request::KernelRead(_))
 }
 
 // A line of a text, with the line feed behind it.
