@@ -127,6 +127,7 @@ fn is_hook(task: &Task, wanted: Request, pid: u32, comm: &str, place: Option<usi
 fn each_hook_is_read(rt: HostRuntime) -> Result<(), Fail> {
     let text = format!(in rt.alloc(); "{DECLARED}{HOOKS}")?;
     let requests = ask(&rt, rt.alloc(), text.as_str())?;
+    assert_eq!(rt; requests.phases.len(), 1);
     let lines = &requests.phases[0].lines;
     assert_eq!(rt; lines.len(), 6);
     assert!(rt; is_hook(&lines[0].task, Request::ExecCheck, 1, "init", Some(0)));
