@@ -82,9 +82,9 @@ activate_form who verb node kind word =
     when (is_text (codes "admin") who && is_text (codes "write") verb && is_text (codes "echo") kind && is_text (codes "1") word)
     (option_map form.Activate (node_name node))
 
--- the greatest process id, and the greatest protection of a mapping
-abbrev pub most_word : ℕ
-most_word = 4294967295
+-- the greatest number in a hook line: a process id, or the protection of a mapping
+abbrev pub most_hook_number : ℕ
+most_hook_number = 4294967295
 
 -- the kind of file that a word names
 unfoldable pub kind_of : List ℕ → Option Kind
@@ -108,7 +108,7 @@ path_or_none word = if is_text (codes "-") word then Some None else when (is_pat
 -- the hook of a request by the task of a process id and a name, on the file of a path or on none
 unfoldable pub hook_of : Request → List ℕ → List ℕ → Option (List ℕ) → Option Form
 hook_of asked pid comm path =
-    when (is_comm comm) (option_map (λ number. form.Hook asked (record { pid = number; comm = comm }) path) (number_of most_word pid))
+    when (is_comm comm) (option_map (λ number. form.Hook asked (record { pid = number; comm = comm }) path) (number_of most_hook_number pid))
 
 -- a line of worker 1 with this hook
 abbrev pub is_hook_line : List ℕ → List ℕ → List ℕ → Bool
@@ -123,14 +123,14 @@ exec_form who hook pid comm path =
 unfoldable pub mmap_form : List ℕ → List ℕ → List ℕ → List ℕ → List ℕ → List ℕ → Option Form
 mmap_form who hook pid comm prot path =
     when (is_hook_line (codes "mmap") who hook && is_path path)
-    (option_and_then (λ bits. hook_of (request.Mmap bits) pid comm (Some path)) (number_of most_word prot))
+    (option_and_then (λ bits. hook_of (request.Mmap bits) pid comm (Some path)) (number_of most_hook_number prot))
 
 -- `w1 mprotect PID COMM WAS PROT PATH`
 unfoldable pub mprotect_form : List ℕ → List ℕ → List ℕ → List ℕ → List ℕ → List ℕ → List ℕ → Option Form
 mprotect_form who hook pid comm was prot path =
     when (is_hook_line (codes "mprotect") who hook)
     (option_and_then (λ was_exec. option_and_then (λ bits. option_and_then (λ file. hook_of (request.Mprotect was_exec bits) pid comm file)
-    (path_or_none path)) (number_of most_word prot)) (was_of was))
+    (path_or_none path)) (number_of most_hook_number prot)) (was_of was))
 
 -- `w1 read PID COMM KIND PATH`
 unfoldable pub kernel_read_form : List ℕ → List ℕ → List ℕ → List ℕ → List ℕ → List ℕ → Option Form

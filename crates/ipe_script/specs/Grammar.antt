@@ -178,7 +178,7 @@ size_of script place = size_at script.files script.texts place
 -- the place of the file that is named, if one is; nothing where it isn't there
 abbrev pub file_named : Script → Option (List ℕ) → Option (Option ℕ)
 file_named script None = Some None
-file_named script (Some path) = option_map (λ place. Some place) (file_place script path)
+file_named script (Some path) = option_map Some (file_place script path)
 
 -- a program check or a kernel read reads the file
 abbrev pub reads_file : Request → Bool

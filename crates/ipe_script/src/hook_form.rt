@@ -1,12 +1,12 @@
 ghost use Rattle.std.specs.Prelude.{◌≡◌, codes};
-ghost use Rattle.ipe_script.specs.Forms.{exec_form, hook_of, is_hook_line, kernel_load_form, kernel_read_form, kind_of, mmap_form, most_word, mprotect_form, number_of, path_or_none, was_of};
+ghost use Rattle.ipe_script.specs.Forms.{exec_form, hook_of, is_hook_line, kernel_load_form, kernel_read_form, kind_of, mmap_form, most_hook_number, mprotect_form, number_of, path_or_none, was_of};
 
 use crate::form::{Form, number};
 use ipe_policy::{Comm, Kind, PathName, Request, Subject};
 
-// A number of a process, or a mapping's protection.
-fn word_number(word: &[u8]) -> Option<u32>
-    ensures { result ≡ number_of most_word word.now }
+// A process id, or the protection of a mapping.
+fn hook_number(word: &[u8]) -> Option<u32>
+    ensures { result ≡ number_of most_hook_number word.now }
 {
     let number = number(word, u64::from(u32::MAX))?;
     Some(number as u32)
@@ -65,7 +65,7 @@ fn hook_of(request: Request, pid: &[u8], comm: &[u8], path: Option<PathName>) ->
     ensures { result ≡ hook_of request pid.now comm.now path }
 {
     let comm = Comm::read(comm)?;
-    let pid = word_number(pid)?;
+    let pid = hook_number(pid)?;
     Some(Form::Hook(request, Subject { pid, comm }, path))
 }
 
@@ -103,7 +103,7 @@ pub fn mmap_line(
         return None;
     }
     let path = PathName::read(path)?;
-    let prot = word_number(prot)?;
+    let prot = hook_number(prot)?;
     hook_of(Request::Mmap { prot }, pid, comm, Some(path))
 }
 
@@ -124,7 +124,7 @@ pub fn mprotect_line(
         return None;
     }
     let was_exec = was_of(was)?;
-    let prot = word_number(prot)?;
+    let prot = hook_number(prot)?;
     let path = path_or_none(path)?;
     hook_of(Request::Mprotect { was_exec, prot }, pid, comm, path)
 }

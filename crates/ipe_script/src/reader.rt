@@ -201,7 +201,7 @@ impl Reader {
             Form::Phase => self.begin_phase(alloc),
             Form::Load(text) => self.add_load(alloc, number, &text),
             Form::Activate(name) => self.add_activation(number, name),
-            Form::Hook(request, subject, path) => { self.add_hook(number, request, subject, path) }
+            Form::Hook(request, subject, path) => self.add_hook(number, request, subject, path),
             Form::End => self.end(alloc),
         }
     }
