@@ -1,7 +1,8 @@
 -- What a line does to the epoch and to the claims counted in it, and the key that its entry has.
-use Rattle.std.proofs.Common.{◌≡◌, ℕ, ◌+◌, ◌⊎◌, inl, inr, Bool, true, false, cond, Option, Some, None, Result, Ok, Err, refl, ap, arith}
+use Rattle.std.proofs.Common.{◌≡◌, ℕ, ◌+◌, ◌⊎◌, inl, inr, Bool, true, false, cond, Option, Some, None, Result, Ok, Err, refl, sym, ap, arith}
 use Rattle.std.specs.Prelude.{is_some, ◌==◌}
-use Rattle.std.proofs.lemmas.Bool.{eq-eqb, ne_eqb}
+use Rattle.std.proofs.lemmas.Bool.{eq-eqb, false≢true, ne_eqb, true≢false}
+use Rattle.std.proofs.lemmas.Option.{none-some}
 use Rattle.ipe_policy.specs.declared.op.Op.{Op}
 use Rattle.ipe_policy.specs.declared.evaluation.Context.{Context}
 use Rattle.ipe_policy.specs.Request.{evaluated_op}
@@ -80,6 +81,22 @@ claim_step : (verdicts : Verdicts) (machine : Machine) (op : Option Op) (context
     → IsHookStep machine (returned verdicts (is_some (ruling_for machine op context).serial) (after_claim machine 0 op)) (claim_key (ruling_for machine op context).place)
 claim_step verdicts machine None context = inl (refl, refl, refl)
 claim_step verdicts machine (Some op) context = ruled_step verdicts machine (active_entry machine.policies) op context
+
+-- a claim that isn't evaluated leaves the machine as it is, and has no place
+pub idle_claim : (verdicts : Verdicts) (machine : Machine) (op : Option Op) (context : Context) → is_some op ≡ false
+    → (returned verdicts (is_some (ruling_for machine op context).serial) (after_claim machine 0 op) ≡ machine) × (claim_key (ruling_for machine op context).place ≡ None)
+idle_claim verdicts machine None context idle = (refl, refl)
+idle_claim verdicts machine (Some op) context idle = absurd (true≢false idle)
+
+-- a claim that is evaluated has a place, with a policy or without
+ruled_placed : (machine : Machine) (entry : Option Loaded) (op : Op) (context : Context) → claim_key (ruling_at machine entry op context).place ≡ None → ⊥
+ruled_placed machine None op context none = none-some _ (sym none)
+ruled_placed machine (Some entry) op context none = none-some _ (sym none)
+
+-- so it is for each operation
+pub placed_claim : (machine : Machine) (op : Option Op) (context : Context) → is_some op ≡ true → claim_key (ruling_for machine op context).place ≡ None → ⊥
+placed_claim machine None context evaluated none = false≢true evaluated
+placed_claim machine (Some op) context evaluated none = ruled_placed machine (active_entry machine.policies) op context none
 
 -- a line of this number and task
 abbrev pub line_of : ℕ → Task → PhaseLine

@@ -1,5 +1,7 @@
 pub mod Epochs
-pub mod FileOrder
+pub mod Rising
+pub mod Cuts
+pub mod PrintedOrder
 pub mod Phases
 pub mod Steps
 pub mod Reading

@@ -1,3 +1,4 @@
 pub mod Order
+pub mod Printed
 pub mod Transcript
 pub mod Spelled

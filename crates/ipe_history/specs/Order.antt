@@ -132,9 +132,28 @@ Rises [] = Unit {0}
 Rises (key ∷ []) = Unit {0}
 Rises (key ∷ next ∷ keys) = IsBefore key next × Rises (next ∷ keys)
 
--- in each phase the entries that have a place stand in their places
+-- an entry stands directly behind one of its own actor; the entries before it are given latest first
+abbrev pub FollowsItsOwn : List Entry → Entry → Type 0
+FollowsItsOwn [] entry = ⊥
+FollowsItsOwn (previous ∷ before) entry = actor_of previous.line ≡ actor_of entry.line
+
+-- an entry stands at the beginning, among others without a place, by actor
+abbrev pub StandsAtTheBeginning : List Entry → Entry → Type 0
+StandsAtTheBeginning before entry =
+    AllByRecursion (λ (earlier : Entry). (key_of earlier ≡ None) × (actor_of earlier.line < actor_of entry.line)) before
+
+-- each entry without a place stands in one of these two ways, behind those before
+abbrev pub UnplacedStand : List Entry → List Entry → Type 0
+UnplacedStand before [] = Unit {0}
+UnplacedStand before (entry ∷ entries) =
+    (key_of entry ≡ None → FollowsItsOwn before entry ⊎ StandsAtTheBeginning before entry)
+    × UnplacedStand (entry ∷ before) entries
+
+-- in each phase the entries that have a place stand in their places, and the others behind their own actor's or at the beginning
 abbrev pub IsInPlace : Script → List (List PhaseLine) → Type 0
-IsInPlace script order = AllByRecursion (λ (entries : List Entry). Rises (filter_map key_of entries)) (phases_entries script at_the_start order)
+IsInPlace script order =
+    AllByRecursion (λ (entries : List Entry). Rises (filter_map key_of entries) × UnplacedStand [] entries)
+    (phases_entries script at_the_start order)
 
 -- the lines' numbers rise from each to the next
 abbrev pub NumbersRise : List PhaseLine → Type 0

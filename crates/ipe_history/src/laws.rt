@@ -1,17 +1,20 @@
 ghost use Rattle.ipe_history.specs.Order.{IsFileOrder, IsInPlace, IsWeave};
+ghost use Rattle.ipe_history.specs.Printed.{printed};
 ghost use Rattle.ipe_history.specs.Spelled.{NumbersBelow, numbers_of, spelled};
 ghost use Rattle.ipe_history.specs.Transcript.{transcript};
 ghost use Rattle.ipe_script.specs.declared.script.PhaseLine.{PhaseLine};
 ghost use Rattle.ipe_script.specs.Grammar.{requests_of};
 ghost use Rattle.ipe_script.specs.Script.{Script};
 ghost use Rattle.std.specs.List.{sum_by};
-ghost use Rattle.std.specs.Prelude.{◌≡◌, ℕ, ◌+◌, ◌^◌, ◌≤◌, List, length, Ok};
+ghost use Rattle.std.specs.Prelude.{◌≡◌, ℕ, ◌+◌, ◌^◌, ◌≤◌, List, length, map, Ok};
 
-/// The order in which a file has its lines is an order that a transcript may have them in, and each line that has a place
-/// stands in it.
-pub fn file_order_is_in_place()
-    ensures weave { (script : Script) → IsWeave script script.phases }
-    ensures in_place { (script : Script) → IsFileOrder script → IsInPlace script script.phases }
+/// Each line's own order is kept where the lines of each phase are printed as `printed` says, and each line stands in its
+/// place. A bound of the numbers of lines bounds them as they are printed, too.
+pub fn printed_order_is_in_place()
+    ensures weave { (script : Script) → IsFileOrder script → IsWeave script (map printed script.phases) }
+    ensures in_place { (script : Script) → IsFileOrder script → IsInPlace script (map printed script.phases) }
+    ensures numbered { (above : ℕ) (order : List (List PhaseLine)) → NumbersBelow above order →
+        NumbersBelow above (map printed order) }
 {}
 
 /// What is read of a request file has each phase's commands before its hooks, all in the order of the file, and has no more

@@ -4,4 +4,6 @@
 
 mod laws;
 
-pub use laws::{file_order_is_in_place, requests_are_in_file_order, transcripts_spell_their_order};
+pub use laws::{
+    printed_order_is_in_place, requests_are_in_file_order, transcripts_spell_their_order,
+};

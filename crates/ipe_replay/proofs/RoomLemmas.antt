@@ -1,5 +1,5 @@
 -- A line takes at most one serial and one claim, and leaves the pass free.
-use Rattle.std.proofs.Common.{◌≡◌, ℕ, suc, ◌+◌, ◌-◌, ◌<◌, ◌≤◌, ◌==◌, cond, Bool, true, false, IsTrue, List, [], ◌∷◌, Option, Some, None, Result, Ok, Err, slice_get, slice_set, length, refl, arith}
+use Rattle.std.proofs.Common.{◌≡◌, ℕ, suc, ◌+◌, ◌≤◌, ◌==◌, cond, Bool, true, false, IsTrue, List, [], ◌∷◌, Option, Some, None, Result, Ok, Err, slice_get, slice_set, length, refl, arith}
 use Rattle.ipe_policy.specs.declared.op.Op.{Op}
 use Rattle.ipe_policy.specs.declared.evaluation.Context.{Context}
 use Rattle.ipe_policy.specs.Request.{evaluated_op}
@@ -18,7 +18,7 @@ use Rattle.ipe_script.specs.declared.script.PhaseLine.{PhaseLine}
 use Rattle.ipe_script.specs.declared.script.Task.{Task}
 use Rattle.ipe_script.specs.declared.script.Task.TheVariants as task
 use Rattle.ipe_script.specs.Script.{Script, bytes_of}
-use Rattle.ipe_history.specs.Order.{is_held, after_line, after_lines, context_of, verdicts_of, event_of}
+use Rattle.ipe_history.specs.Order.{is_held, after_line, after_lines, context_of, verdicts_of}
 use Rattle.ipe_replay.specs.Room.{HasRoom}
 
 cond-next : (b : Bool) (p q : Policies) (n : ℕ) → p.next ≤ n → q.next ≤ n → (cond b p q).next ≤ n
@@ -109,3 +109,12 @@ room-after_lines script m [] n room = room-fewer m n (0 + n) (omega arith) room
 room-after_lines script m (line ∷ lines) n room =
     room-after_lines script (after_line script m line) lines n
     (room-after_line script m line (length lines + n) (room-fewer m (suc (length lines + n)) (suc (length lines) + n) (omega arith) room))
+
+-- room for three parts is room for each, behind those before it
+pub room-parts : (script : Script) (m : Machine) (early commands late : List PhaseLine) (n : ℕ) → length early + length commands + length late ≡ n → HasRoom m n
+    → HasRoom (after_lines script m early) (length commands) × HasRoom (after_lines script (after_lines script m early) commands) (length late)
+room-parts script m early commands late n all room =
+    let behind = room-after_lines script m early (length commands + length late) (room-fewer m (length early + (length commands + length late)) n (omega (arith, all)) room) in (
+      room-fewer (after_lines script m early) (length commands) (length commands + length late) (omega arith) behind,
+      room-after_lines script (after_lines script m early) commands (length late) behind,
+    )

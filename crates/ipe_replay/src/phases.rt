@@ -1,10 +1,12 @@
-ghost use Rattle.std.specs.Prelude.{◌≡◌, ◌<◌, ◌^◌, ◌++◌, length, IfOk, OnOk, sum_by, string_bytes};
+ghost use Rattle.std.specs.Prelude.{◌≡◌, ◌<◌, ◌^◌, ◌++◌, length, map, IfOk, OnOk, sum_by, string_bytes};
 ghost use Rattle.ipe_script.specs.Script.{bytes_of};
 ghost use Rattle.ipe_history.specs.Order.{is_held, trusted_text, marks_of, context_of, object_of, event_of, line_reply, after_line, after_lines};
+ghost use Rattle.ipe_history.specs.Printed.{printed};
 ghost use Rattle.ipe_history.specs.Transcript.{lines_text, phases_text, transcript};
 ghost use Rattle.ipe_transcript.specs.Lines.{entry_text};
 ghost use Rattle.ipe_replay.specs.Room.{HasRoom};
 
+use crate::parts::printed_parts;
 use ipe_core::{
     Act, Command, Event, Mark, Marks, Purpose, Reply, State, Text, TrustList, Value, Verdict, step,
 };
@@ -136,6 +138,26 @@ fn replay_line(
     print_reply(out, line.line, &reply)
 }
 
+fn replay_lines(
+    alloc: Global,
+    signer: &TrustList,
+    requests: &Requests,
+    state: &mut State,
+    lines: &[PhaseLine],
+    out: &mut String,
+) -> Result<(), AllocError>
+    requires signer { signer.now ≡ marks_of requests.now }
+    requires room { HasRoom state.old (length lines.now) }
+    ensures out { OnOk result
+        (string_bytes out.new ≡ string_bytes out.old ++ lines_text requests.now state.old lines.now) }
+    ensures after { OnOk result (state.new ≡ after_lines requests.now state.old lines.now) }
+{
+    for line in lines {
+        replay_line(alloc, signer, requests, state, line, out)?;
+    }
+    Ok(())
+}
+
 fn replay_phase(
     alloc: Global,
     signer: &TrustList,
@@ -146,13 +168,14 @@ fn replay_phase(
 ) -> Result<(), AllocError>
     requires signer { signer.now ≡ marks_of requests.now }
     requires room { HasRoom state.old (length phase.now) }
-    ensures out { OnOk result (string_bytes out.new ≡ string_bytes out.old ++ lines_text requests.now state.old phase.now) }
-    ensures after { OnOk result (state.new ≡ after_lines requests.now state.old phase.now) }
+    ensures out { OnOk result
+        (string_bytes out.new ≡ string_bytes out.old ++ lines_text requests.now state.old (printed phase.now)) }
+    ensures after { OnOk result (state.new ≡ after_lines requests.now state.old (printed phase.now)) }
 {
-    for line in &phase.lines {
-        replay_line(alloc, signer, requests, state, line, out)?;
-    }
-    Ok(())
+    let (early, commands, late) = printed_parts(phase.lines.as_slice());
+    replay_lines(alloc, signer, requests, state, early, out)?;
+    replay_lines(alloc, signer, requests, state, commands, out)?;
+    replay_lines(alloc, signer, requests, state, late, out)
 }
 
 fn replay_phases(
@@ -164,7 +187,8 @@ fn replay_phases(
 ) -> Result<(), AllocError>
     requires signer { signer.now ≡ marks_of requests.now }
     requires room { HasRoom state.old (sum_by length requests.now.phases) }
-    ensures { OnOk result (string_bytes out.new ≡ string_bytes out.old ++ phases_text requests.now 1 state.old requests.now.phases) }
+    ensures { OnOk result (string_bytes out.new ≡ string_bytes out.old
+        ++ phases_text requests.now 1 state.old (map printed requests.now.phases)) }
 {
     for (place, phase) in requests.phases.iter().enumerate() {
         let number = place + 1;
@@ -174,10 +198,11 @@ fn replay_phases(
     Ok(())
 }
 
-/// The transcript of the file's lines, in their order.
+/// The transcript of the file's lines: in each phase the hooks before the first that is evaluated, the commands, and the
+/// other hooks.
 pub fn replay(alloc: Global, requests: &Requests) -> Result<String, AllocError>
     requires { sum_by length requests.now.phases < 2 ^ 32 }
-    ensures { IfOk result (λ text. string_bytes text ≡ transcript requests.now requests.now.phases) }
+    ensures { IfOk result (λ text. string_bytes text ≡ transcript requests.now (map printed requests.now.phases)) }
 {
     let signer = signer_of(alloc, requests)?;
     let mut state = State::new(alloc, 1)?;

@@ -1,20 +1,58 @@
-use Rattle.std.proofs.Common.{◌≡◌, ℕ, suc, ◌+◌, ◌-◌, ◌<◌, ◌≤◌, length, append_assoc, arith}
-use Rattle.ipe_replay.specs.Room.{HasRoom}
-use Rattle.ipe_replay.proofs.LineLemmas.{lines_text-drop, after_lines-drop}
-use Rattle.ipe_replay.proofs.RoomLemmas.{room-after_line, room-fewer}
+use Rattle.std.proofs.Common.{◌≡◌, ◌+◌, ◌++◌, List, length, string_bytes, ap, ◌∙◌}
+use Rattle.std.proofs.lemmas.Result.{on_ok_weaker}
+use Rattle.ipe_script.specs.declared.script.PhaseLine.{PhaseLine}
+use Rattle.ipe_history.specs.Order.{after_lines}
+use Rattle.ipe_history.specs.Printed.{printed}
+use Rattle.ipe_history.specs.Transcript.{lines_text}
+use Rattle.ipe_replay.proofs.LineLemmas.{machine-parts, text-parts}
+use Rattle.ipe_replay.proofs.RoomLemmas.{room-parts}
 use Rattle.ipe_replay.proofs.phases.replay_phase.Goals as goal
 
-pub loop-line-preserved : goal.loop-line-preserved
-loop-line-preserved c =
+pub replay_lines-requires-2-clause-room : goal.replay_lines-requires-2-clause-room
+replay_lines-requires-2-clause-room c =
     let script = c.args.requests.now in
-    let lines = c.deref-line-items.result.now in
-    let i = c.loop-line.line-index in
-    let lt : i < length lines = omega arith in
-    let text = lines_text-drop script c.loop-line.state lines i c.line-item.result lt c.line-item.is in
-    let machine = after_lines-drop script c.loop-line.state lines i c.line-item.result lt c.line-item.is in
-    let room = room-after_line script c.loop-line.state c.line-item.result (length lines - (i + 1)) (room-fewer c.loop-line.state (suc (length lines - (i + 1))) (length lines - i) (omega arith) c.loop-line.invariant.room) in
-    record {
-      printed = rw (c.in_ok-replay_line.ensures.out, c.in_ok-replay_line.ensures.after, append_assoc, ← text) c.loop-line.invariant.printed;
-      stepped = rw (c.in_ok-replay_line.ensures.after, ← machine) c.loop-line.invariant.stepped;
-      room = rw c.in_ok-replay_line.ensures.after room;
-    }
+    let early = c.printed_parts.result.0.now in
+    let commands = c.printed_parts.result.1.now in
+    let late = c.printed_parts.result.2.now in
+    let same : c.as_slice.result.now ≡ c.args.phase.now = cc in
+    let all : length early + length commands + length late ≡ length c.args.phase.now = c.printed_parts.ensures.all ∙ ap length same in
+    let room = room-parts script c.args.state.now early commands late (length c.args.phase.now) all c.requires.room in
+    rw c.in_ok-replay_lines.ensures.after room.0
+
+pub replay_lines-requires-3-clause-room : goal.replay_lines-requires-3-clause-room
+replay_lines-requires-3-clause-room c =
+    let script = c.args.requests.now in
+    let early = c.printed_parts.result.0.now in
+    let commands = c.printed_parts.result.1.now in
+    let late = c.printed_parts.result.2.now in
+    let same : c.as_slice.result.now ≡ c.args.phase.now = cc in
+    let all : length early + length commands + length late ≡ length c.args.phase.now = c.printed_parts.ensures.all ∙ ap length same in
+    let room = room-parts script c.args.state.now early commands late (length c.args.phase.now) all c.requires.room in
+    rw (c.in_ok-replay_lines-2.ensures.after, c.in_ok-replay_lines.ensures.after) room.1
+
+pub returns-clause-out : goal.returns-clause-out
+returns-clause-out c =
+    let script = c.args.requests.now in
+    let early = c.printed_parts.result.0.now in
+    let commands = c.printed_parts.result.1.now in
+    let late = c.printed_parts.result.2.now in
+    let same : c.as_slice.result.now ≡ c.args.phase.now = cc in
+    let order : early ++ commands ++ late ≡ printed c.args.phase.now = c.printed_parts.ensures.order ∙ ap printed same in
+    on_ok_weaker c.replay_lines-3.result (λ last.
+    text-parts script c.args.state.now c.replay_lines.new.state c.replay_lines-2.new.state early commands late
+    (string_bytes c.args.out.now) (string_bytes c.replay_lines.new.out) (string_bytes c.replay_lines-2.new.out) (string_bytes c.replay_lines-3.new.out)
+    c.in_ok-replay_lines.ensures.after c.in_ok-replay_lines-2.ensures.after c.in_ok-replay_lines.ensures.out c.in_ok-replay_lines-2.ensures.out last
+    ∙ ap (λ (part : List PhaseLine). string_bytes c.args.out.now ++ lines_text script c.args.state.now part) order) c.replay_lines-3.ensures.out
+
+pub returns-clause-after : goal.returns-clause-after
+returns-clause-after c =
+    let script = c.args.requests.now in
+    let early = c.printed_parts.result.0.now in
+    let commands = c.printed_parts.result.1.now in
+    let late = c.printed_parts.result.2.now in
+    let same : c.as_slice.result.now ≡ c.args.phase.now = cc in
+    let order : early ++ commands ++ late ≡ printed c.args.phase.now = c.printed_parts.ensures.order ∙ ap printed same in
+    on_ok_weaker c.replay_lines-3.result (λ last.
+    machine-parts script c.args.state.now c.replay_lines.new.state c.replay_lines-2.new.state c.replay_lines-3.new.state early commands late
+    c.in_ok-replay_lines.ensures.after c.in_ok-replay_lines-2.ensures.after last
+    ∙ ap (after_lines script c.args.state.now) order) c.replay_lines-3.ensures.after

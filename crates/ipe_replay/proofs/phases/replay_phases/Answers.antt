@@ -1,10 +1,11 @@
-use Rattle.std.proofs.Common.{◌≡◌, ℕ, ◌+◌, ◌-◌, ◌<◌, ◌≤◌, ◌++◌, List, length, drop, sum_by, codes, string_bytes, subst, sym, ap, ◌∙◌, arith}
+use Rattle.std.proofs.Common.{◌≡◌, ℕ, ◌+◌, ◌<◌, ◌++◌, List, map, length, drop, sum_by, codes, string_bytes, sym, ap, ◌∙◌, arith}
 use Rattle.std.specs.Fmt.{decimal}
-use Rattle.ipe_machine.specs.Machine.{Machine}
+use Rattle.ipe_script.specs.declared.script.PhaseLine.{PhaseLine}
 use Rattle.ipe_transcript.specs.Lines.{line_text}
 use Rattle.ipe_history.specs.Order.{after_lines}
+use Rattle.ipe_history.specs.Printed.{printed}
 use Rattle.ipe_history.specs.Transcript.{lines_text, phases_text}
-use Rattle.ipe_replay.specs.Room.{HasRoom}
+use Rattle.ipe_history.proofs.PrintedOrder.{printed_length}
 use Rattle.ipe_replay.proofs.LineLemmas.{phases_text-drop, sum-drop, joined}
 use Rattle.ipe_replay.proofs.RoomLemmas.{room-after_lines, room-fewer}
 use Rattle.ipe_replay.proofs.phases.replay_phases.Goals as goal
@@ -25,10 +26,12 @@ loop-place-preserved c =
     let x = c.phase-item.result in
     let lt : i < length phases = omega arith in
     let sum = sum-drop phases i x lt c.phase-item.is in
-    let rest = phases_text script (i + 1 + 1) (after_lines script m x) (drop (i + 1) phases) in
-    let room = room-after_lines script m x (sum_by length (drop (i + 1) phases)) (room-fewer m (length x + sum_by length (drop (i + 1) phases)) (sum_by length (drop i phases)) (omega (arith, sum)) c.loop-place.invariant.room) in
-    let text : string_bytes c.replay_phase.new.out ++ rest ≡ string_bytes c.args.out.now ++ phases_text script 1 c.args.state.now phases =
-    joined (string_bytes c.loop-place.out) (string_bytes c.writeln.new.self) (string_bytes c.replay_phase.new.out) (line_text (codes "phase " ++ decimal (i + 1))) (lines_text script m x) rest
+    let part : List PhaseLine = printed x in
+    let rest = phases_text script (i + 1 + 1) (after_lines script m part) (map printed (drop (i + 1) phases)) in
+    let left : ℕ = sum_by length (drop (i + 1) phases) in
+    let room = room-after_lines script m part left (room-fewer m (length part + left) (sum_by length (drop i phases)) (omega (arith, sum, printed_length x)) c.loop-place.invariant.room) in
+    let text : string_bytes c.replay_phase.new.out ++ rest ≡ string_bytes c.args.out.now ++ phases_text script 1 c.args.state.now (map printed phases) =
+    joined (string_bytes c.loop-place.out) (string_bytes c.writeln.new.self) (string_bytes c.replay_phase.new.out) (line_text (codes "phase " ++ decimal (i + 1))) (lines_text script m part) rest
     c.in_ok-writeln.ensures.bytes c.in_ok-replay_phase.ensures.out
     ∙ ap (λ (t : List ℕ). string_bytes c.loop-place.out ++ t) (sym (phases_text-drop script (i + 1) m phases i x lt c.phase-item.is))
     ∙ c.loop-place.invariant.printed in

@@ -1,4 +1,4 @@
-use Rattle.std.proofs.Common.{◌≡◌, ℕ, map, take}
+use Rattle.std.proofs.Common.{◌≡◌, map, take}
 use Rattle.ipe_script.specs.Script.{bytes_of}
 use Rattle.ipe_history.specs.Order.{trusted_text}
 use Rattle.ipe_replay.proofs.phases.signer_of.Given as goal

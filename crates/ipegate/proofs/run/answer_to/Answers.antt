@@ -1,17 +1,20 @@
 use Rattle.std.proofs.Common.{◌≡◌, ℕ, ◌+◌, ◌≤◌, ◌^◌, List, length, Ok, ap, ◌∙◌, arith}
 use Rattle.ipe_script.specs.Grammar.{requests_of}
 use Rattle.ipe_script.specs.Script.{Script}
+use Rattle.ipe_history.specs.Printed.{printed_order}
 use Rattle.ipe_history.specs.Spelled.{numbers_of, spelled}
 use Rattle.ipe_history.specs.Transcript.{transcript}
-use Rattle.ipe_history.proofs.FileOrder.{file_order_in_place, file_order_weaves}
+use Rattle.ipe_history.proofs.PrintedOrder.{printed_in_place, printed_numbered, printed_weaves}
 use Rattle.ipe_history.proofs.Reading.{NumbersBelow-more, requests_in_order, requests_few, requests_numbered}
 use Rattle.ipe_history.proofs.Spelling.{transcript_spelled}
 use Rattle.ipegate.proofs.run.answer_to.Goals as goal
 
--- the transcript of what is read of an input within the limit spells the order of the file
-spells_order : (input text : List ℕ) (script : Script) → length input ≤ 16777216 → requests_of input ≡ Ok script → text ≡ transcript script script.phases → spelled text ≡ numbers_of script.phases
+-- the transcript of what is read of an input within the limit spells the order in which it is printed
+spells_order : (input text : List ℕ) (script : Script) → length input ≤ 16777216 → requests_of input ≡ Ok script → text ≡ transcript script (printed_order script)
+    → spelled text ≡ numbers_of (printed_order script)
 spells_order input text script fits asks bytes =
-    ap spelled bytes ∙ transcript_spelled script script.phases (NumbersBelow-more (length input + 2) (2 ^ 32) script.phases (omega arith) (requests_numbered input script asks))
+    let below = NumbersBelow-more (length input + 2) (2 ^ 32) script.phases (omega arith) (requests_numbered input script asks) in
+    ap spelled bytes ∙ transcript_spelled script (printed_order script) (printed_numbered (2 ^ 32) script.phases below)
 
 pub replay-requires : goal.replay-requires
 replay-requires c = omega (arith, c.requires, requests_few c.args.input.now c.in-Ok.requests c.in-Ok.ensures)
@@ -19,11 +22,11 @@ replay-requires c = omega (arith, c.requires, requests_few c.args.input.now c.in
 pub returns-in_ok-replay-in-Ok : goal.returns-in_ok-replay-in-Ok
 returns-in_ok-replay-in-Ok c = record {
   script = c.in-Ok.requests;
-  order = c.in-Ok.requests.phases;
+  order = printed_order c.in-Ok.requests;
   fits = c.requires;
   asks = c.in-Ok.ensures;
-  weave = file_order_weaves c.in-Ok.requests;
-  in_place = file_order_in_place c.in-Ok.requests (requests_in_order c.args.input.now c.in-Ok.requests c.in-Ok.ensures);
+  weave = printed_weaves c.in-Ok.requests (requests_in_order c.args.input.now c.in-Ok.requests c.in-Ok.ensures);
+  in_place = printed_in_place c.in-Ok.requests (requests_in_order c.args.input.now c.in-Ok.requests c.in-Ok.ensures);
   bytes = c.in_ok-replay-in-Ok.ensures;
   spells = spells_order c.args.input.now _ c.in-Ok.requests c.requires c.in-Ok.ensures c.in_ok-replay-in-Ok.ensures;
 }

@@ -1,12 +1,14 @@
--- The order of the file is in place.
-use Rattle.std.proofs.Common.{◌≡◌, ℕ, ◌+◌, ◌<◌, ◌⊎◌, inl, inr, List, [], ◌∷◌, Option, refl, subst, arith}
-use Rattle.std.specs.List.{AllByRecursion, AllZip, cons_option, filter_map}
+-- The keys of commands' lines, and of hooks' lines behind them, rise.
+use Rattle.std.proofs.Common.{◌≡◌, ℕ, ◌+◌, ◌<◌, ◌⊎◌, inl, inr, List, [], ◌∷◌, ◌++◌, Option, None, refl, sym, ◌∙◌, subst, arith}
+use Rattle.std.specs.List.{cons_option, filter_map}
+use Rattle.std.proofs.lemmas.Option.{none-some}
 use Rattle.ipe_machine.specs.Machine.{Machine}
 use Rattle.ipe_script.specs.declared.script.PhaseLine.{PhaseLine}
 use Rattle.ipe_script.specs.declared.script.Task.{Task}
 use Rattle.ipe_script.specs.declared.script.Task.TheVariants.{Load, Activate, Hook}
 use Rattle.ipe_script.specs.Script.{Script, actor_of, actor_of_task}
-use Rattle.ipe_history.specs.Order.{Entry, Key, IsBefore, Rises, key_of, entries_of, after_line, after_lines, phases_entries, at_the_start, NumbersRise, AllHooks, CommandsFirst, IsWeaveOf, IsWeave, IsInPlace, IsFileOrder}
+use Rattle.ipe_history.specs.Order.{Key, IsBefore, Rises, key_of, entries_of, after_line, NumbersRise, AllHooks}
+use Rattle.ipe_history.proofs.Phases.{AllCommands}
 use Rattle.ipe_history.proofs.Epochs.{IsHookStep, IsCommandStep, line_of, line_key, line_step}
 
 -- a key of this epoch, rank and place
@@ -14,7 +16,7 @@ abbrev at : ℕ → ℕ → ℕ → Key
 at epoch rank within = record { epoch = epoch; rank = rank; within = within }
 
 -- the keys of lines
-abbrev keys_of : Script → Machine → List PhaseLine → List Key
+abbrev pub keys_of : Script → Machine → List PhaseLine → List Key
 keys_of script machine lines = filter_map key_of (entries_of script machine lines)
 
 -- a first key may be left out
@@ -95,51 +97,40 @@ begins-first : (lines : List PhaseLine) → LaterFirst 0 0 lines
 begins-first [] = tt
 begins-first (line ∷ lines) = inl (omega arith)
 
--- what begins an epoch, and a command, are before each claim in it
-low-counted : (rank within count number : ℕ) → Later rank within number → Counted rank within count
-low-counted rank within count number (inl begins) = inl (omega arith)
-low-counted rank within count number (inr later) = inl (omega arith)
+-- a line of a command makes a command's step
+task_commands : (script : Script) (machine : Machine) (number : ℕ) (task : Task) → actor_of_task task ≡ 0
+    → IsCommandStep number machine (after_line script machine (line_of number task)) (line_key script machine (line_of number task))
+task_commands script machine number (Load text) command = line_step script machine number (Load text)
+task_commands script machine number (Activate name) command = line_step script machine number (Activate name)
+task_commands script machine number (Hook request subject file) command = absurd (omega (arith, command))
 
--- a line of a command makes a command's step; a hook's line has only hooks behind it
-task_splits : (script : Script) (machine : Machine) (number : ℕ) (task : Task)
-    → IsCommandStep number machine (after_line script machine (line_of number task)) (line_key script machine (line_of number task)) ⊎ (actor_of_task task ≡ 1)
-task_splits script machine number (Load text) = inl (line_step script machine number (Load text))
-task_splits script machine number (Activate name) = inl (line_step script machine number (Activate name))
-task_splits script machine number (Hook request subject file) = inr refl
+-- the same of a line
+command_step : (script : Script) (machine : Machine) (line : PhaseLine) → actor_of line ≡ 0 → IsCommandStep line.line machine (after_line script machine line) (line_key script machine line)
+command_step script machine line command = task_commands script machine line.line line.task command
 
--- the keys of a phase's lines rise behind each key of the epoch that is before them
-lines_rise : (script : Script) (machine : Machine) (rank within : ℕ) (lines : List PhaseLine) → NumbersRise lines → CommandsFirst lines → LaterFirst rank within lines
-    → Rises (at machine.policies.epoch rank within ∷ keys_of script machine lines)
-lines_rise script machine rank within [] numbers commands later = tt
-lines_rise script machine rank within (line ∷ lines) numbers commands later =
+-- the keys of commands' lines, and of hooks' lines behind them, rise behind each command's key of the epoch that is before them
+commands_rise : (script : Script) (machine : Machine) (rank within : ℕ) (commands hooks : List PhaseLine) → NumbersRise commands → AllCommands commands → AllHooks hooks
+    → rank < 2 → LaterFirst rank within commands
+    → Rises (at machine.policies.epoch rank within ∷ keys_of script machine (commands ++ hooks))
+commands_rise script machine rank within [] hooks numbers all behind low later = hooks_rise script machine rank within hooks behind (inl low)
+commands_rise script machine rank within (line ∷ commands) hooks numbers all behind low later =
     let then = after_line script machine line in
-    let behind = numbers-first line lines numbers in
-    elim (task_splits script machine line.line line.task) [
-      | inl step ↦
-          command_onto line.line machine then (line_key script machine line) rank within (keys_of script then lines) step later
-          (lines_rise script then 1 line.line lines behind.1 commands.1 behind.0)
-          (lines_rise script then 0 0 lines behind.1 commands.1 (begins-first lines))
-      | inr hook ↦ hooks_rise script machine rank within (line ∷ lines) (hook, commands.0 hook) (low-counted rank within machine.count line.line later)
+    let rest = numbers-first line commands numbers in
+    command_onto line.line machine then (line_key script machine line) rank within (keys_of script then (commands ++ hooks)) (command_step script machine line all.0) later
+    (commands_rise script then 1 line.line commands hooks rest.1 all.1 behind (omega arith) rest.0)
+    (commands_rise script then 0 0 commands hooks rest.1 all.1 behind (omega arith) (begins-first commands))
+
+-- the keys of commands' lines, and of hooks' lines behind them, rise
+pub lines_rise : (script : Script) (machine : Machine) (commands hooks : List PhaseLine) → NumbersRise commands → AllCommands commands → AllHooks hooks
+    → Rises (keys_of script machine (commands ++ hooks))
+lines_rise script machine commands hooks numbers all behind =
+    Rises-tail (at machine.policies.epoch 0 0) (keys_of script machine (commands ++ hooks))
+    (commands_rise script machine 0 0 commands hooks numbers all behind (omega arith) (begins-first commands))
+
+-- a command's line has a place
+pub command_placed : (script : Script) (machine : Machine) (line : PhaseLine) → actor_of line ≡ 0 → line_key script machine line ≡ None → ⊥
+command_placed script machine line command none =
+    elim (command_step script machine line command) [
+      | inl step ↦ none-some _ (sym none ∙ step.1)
+      | inr step ↦ none-some _ (sym none ∙ step.1)
     ]
-
--- each phase is in place, from each machine on
-phases_in_place : (script : Script) (machine : Machine) (phases : List (List PhaseLine)) → AllByRecursion (λ (lines : List PhaseLine). NumbersRise lines × CommandsFirst lines) phases
-    → AllByRecursion (λ (entries : List Entry). Rises (filter_map key_of entries)) (phases_entries script machine phases)
-phases_in_place script machine [] order = tt
-phases_in_place script machine (lines ∷ phases) order = (
-  Rises-tail (at machine.policies.epoch 0 0) (keys_of script machine lines) (lines_rise script machine 0 0 lines order.0.0 order.0.1 (begins-first lines)),
-  phases_in_place script (after_lines script machine lines) phases order.1,
-)
-
--- a script in the order of its file is in place
-pub file_order_in_place : (script : Script) → IsFileOrder script → IsInPlace script script.phases
-file_order_in_place script order = phases_in_place script at_the_start script.phases order
-
--- phases are weaves of themselves
-phases_weave : (phases : List (List PhaseLine)) → AllZip IsWeaveOf phases phases
-phases_weave [] = tt
-phases_weave (lines ∷ phases) = ((λ actor. refl), phases_weave phases)
-
--- the order of the file is a weave
-pub file_order_weaves : (script : Script) → IsWeave script script.phases
-file_order_weaves script = phases_weave script.phases
