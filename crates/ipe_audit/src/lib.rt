@@ -1,0 +1,11 @@
+//! The audit records of the gate, each a line to the byte.
+#![tactic(auto)]
+
+mod lines;
+mod records;
+
+pub use lines::{LineBytes, Lines};
+pub use records::{Brief, activation_line, enforce_line, load_line};
+
+#[cfg(test)]
+mod tests;

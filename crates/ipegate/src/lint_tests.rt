@@ -1,0 +1,215 @@
+use super::tests::answered;
+use std::test::Fail;
+
+/// examples/sealed_appliance.policy
+const SEALED_APPLIANCE: &str = "# A sealed appliance: nothing runs but what was in the boot image or is on the signed volume.
+policy_name=sealed-appliance policy_version=1.4.0
+DEFAULT action=DENY
+op=EXECUTE boot_verified=TRUE action=ALLOW
+op=EXECUTE dmverity_signature=TRUE action=ALLOW
+op=FIRMWARE boot_verified=TRUE action=ALLOW
+op=KMODULE boot_verified=TRUE action=ALLOW
+op=POLICY boot_verified=TRUE action=ALLOW
+";
+
+/// examples/locked_server.policy
+const LOCKED_SERVER: &str = "# A locked server: signed volumes and signed files run, but for one volume whose root is revoked.
+policy_name=locked-server policy_version=2.1.1
+DEFAULT action=DENY
+op=EXECUTE dmverity_roothash=sha256:4f1f0a2c9d3b6e8877665544332211000f1e2d3c4b5a69788796a5b4c3d2e1f0 action=DENY\t# revoked in November
+op=EXECUTE boot_verified=TRUE action=ALLOW
+op=EXECUTE dmverity_signature=TRUE action=ALLOW
+op=EXECUTE fsverity_signature=TRUE action=ALLOW
+op=KMODULE boot_verified=TRUE action=ALLOW
+op=KMODULE dmverity_signature=TRUE action=ALLOW
+DEFAULT op=FIRMWARE action=ALLOW
+";
+
+/// examples/permissive_start.policy
+const PERMISSIVE_START: &str = "# A permissive start: everything is allowed, but for kernel images that are not of the boot image.
+policy_name=permissive-start policy_version=0.1.0
+DEFAULT action=ALLOW
+op=KEXEC_IMAGE boot_verified=FALSE action=DENY
+op=KEXEC_INITRAMFS boot_verified=FALSE action=DENY
+";
+
+const SEVEN_DEFAULTS: &str = "policy_name=d policy_version=1.0.0
+DEFAULT op=EXECUTE action=DENY
+DEFAULT op=FIRMWARE action=DENY
+DEFAULT op=KMODULE action=DENY
+DEFAULT op=KEXEC_IMAGE action=DENY
+DEFAULT op=KEXEC_INITRAMFS action=DENY
+DEFAULT op=POLICY action=DENY
+DEFAULT op=X509_CERT action=DENY
+";
+
+const EIGHT_DEFAULTS: &str = "policy_name=d policy_version=1.0.0
+DEFAULT op=EXECUTE action=DENY
+DEFAULT op=FIRMWARE action=DENY
+DEFAULT op=KMODULE action=DENY
+DEFAULT op=KEXEC_IMAGE action=DENY
+DEFAULT op=KEXEC_INITRAMFS action=DENY
+DEFAULT op=POLICY action=DENY
+DEFAULT op=X509_CERT action=DENY
+DEFAULT op=POLICY action=ALLOW
+";
+
+const ONE_RULE: &str = "policy_name=a policy_version=1.0.0
+DEFAULT action=DENY
+op=EXECUTE boot_verified=TRUE action=ALLOW
+";
+
+const TWO_DEFAULTS: &str = "policy_name=a policy_version=1.0.0
+DEFAULT action=DENY
+DEFAULT action=DENY
+op=EXECUTE boot_verified=TRUE action=ALLOW
+";
+
+const HEADER_THE_OTHER_WAY: &str = "policy_version=1.0.0 policy_name=a
+DEFAULT action=DENY
+";
+
+#[test]
+fn policies_are_linted(rt: HostRuntime) -> Result<(), Fail> {
+    for (text, status, answer) in [
+        (ONE_RULE, 0, "ok a 1.0.0 rules=1 words=27\n"),
+        (SEVEN_DEFAULTS, 0, "ok d 1.0.0 rules=0 words=25\n"),
+        (EIGHT_DEFAULTS, 3, "refused line 9: TwiceDefault\n"),
+        (TWO_DEFAULTS, 3, "refused line 3: TwiceDefault\n"),
+        (HEADER_THE_OTHER_WAY, 3, "refused line 1: NoHeader\n"),
+        (
+            "policy_name=a policy_version=1.0.0\n",
+            3,
+            "refused: no default for EXECUTE\n",
+        ),
+        (
+            "policy_name=a policy_version=65536.0.0\n",
+            3,
+            "refused line 1: BadVersion\n",
+        ),
+    ] {
+        let (found, written) = answered(rt.alloc(), &["lint"], text.as_bytes())?;
+        assert_eq!(rt; found, status, "{text}");
+        assert_eq!(rt; written.as_slice(), answer.as_bytes(), "{text}");
+    }
+    Ok(())
+}
+
+#[test]
+fn each_fault_of_a_header_is_named(rt: HostRuntime) -> Result<(), Fail> {
+    for (text, answer) in [
+        ("", "refused line 1: NoHeader\n"),
+        ("# a comment\n\n", "refused line 1: NoHeader\n"),
+        ("policy_name=a\n", "refused line 1: NoHeader\n"),
+        (
+            "policy_name=a policy_version=1.0.0 more\n",
+            "refused line 1: NoHeader\n",
+        ),
+        (
+            "name=a policy_version=1.0.0\n",
+            "refused line 1: NoHeader\n",
+        ),
+        (
+            "policy_name=a version=1.0.0\n",
+            "refused line 1: NoHeader\n",
+        ),
+        (
+            "\n\npolicy_name=a/b policy_version=x\n",
+            "refused line 3: BadName\n",
+        ),
+        (
+            "policy_name=.. policy_version=1.0.0\n",
+            "refused line 1: BadName\n",
+        ),
+        (
+            "policy_name=a policy_version=1.0\n",
+            "refused line 1: BadVersion\n",
+        ),
+        (
+            "policy_name=a policy_version=1.0.000000\n",
+            "refused line 1: BadVersion\n",
+        ),
+    ] {
+        let (status, written) = answered(rt.alloc(), &["lint"], text.as_bytes())?;
+        assert_eq!(rt; status, 3, "{text}");
+        assert_eq!(rt; written.as_slice(), answer.as_bytes(), "{text}");
+    }
+    Ok(())
+}
+
+#[test]
+fn each_fault_of_a_statement_is_named(rt: HostRuntime) -> Result<(), Fail> {
+    for (line, kind) in [
+        // A line that begins with DEFAULT.
+        ("DEFAULT op=RUN action=MAYBE", "BadOp"),
+        ("DEFAULT op=bad", "BadOp"),
+        ("DEFAULT", "BadAction"),
+        ("DEFAULT op=EXECUTE", "BadAction"),
+        ("DEFAULT boot_verified=TRUE action=MAYBE", "BadAction"),
+        ("DEFAULT action=DENY action=DENY", "PropertyInDefault"),
+        (
+            "DEFAULT op=EXECUTE boot_verified=TRUE action=DENY",
+            "PropertyInDefault",
+        ),
+        ("DEFAULT action=ALLOW", "TwiceDefault"),
+        // Any other line.
+        ("boot_verified=TRUE op=EXECUTE", "BadOp"),
+        ("op=execute action=MAYBE", "BadOp"),
+        ("op=EXECUTE", "BadAction"),
+        ("op=EXECUTE boot_verified=MAYBE action=allow", "BadAction"),
+        (
+            "op=EXECUTE x x x x x x x x x x x x x x x x x action=DENY",
+            "TooManyProperties",
+        ),
+        (
+            "op=EXECUTE x x x x x x x x x x x x x x x x action=DENY",
+            "BadProperty",
+        ),
+        ("op=EXECUTE dmverity_roothash action=DENY", "BadProperty"),
+        (
+            "op=EXECUTE boot_verified=true fsverity_digest=x action=DENY",
+            "BadProperty",
+        ),
+        (
+            "op=EXECUTE fsverity_digest=sha256:abc boot_verified=true action=DENY",
+            "BadDigest",
+        ),
+        (
+            "op=EXECUTE dmverity_roothash=SHA256:ab action=DENY",
+            "BadDigest",
+        ),
+        (
+            "op=EXECUTE dmverity_roothash=sha256: action=DENY",
+            "BadDigest",
+        ),
+        (
+            "op=EXECUTE dmverity_roothash=sha256:ag action=DENY",
+            "BadDigest",
+        ),
+        // A comment begins within a token.
+        ("op=EXECUTE act#ion=DENY", "BadAction"),
+    ] {
+        let text = format!(in rt.alloc();
+            "policy_name=a\tpolicy_version=1.0.0\r\nDEFAULT action=DENY\n{line}"
+        )?;
+        let answer = format!(in rt.alloc(); "refused line 3: {kind}\n")?;
+        let (status, written) = answered(rt.alloc(), &["lint"], text.as_bytes())?;
+        assert_eq!(rt; status, 3, "{line}");
+        assert_eq!(rt; written.as_slice(), answer.as_bytes(), "{line}");
+    }
+    Ok(())
+}
+
+#[test]
+fn the_examples_are_policies(rt: HostRuntime) -> Result<(), Fail> {
+    for (text, answer) in [
+        (SEALED_APPLIANCE, "ok sealed-appliance 1.4.0 rules=5 words=35\n"),
+        (LOCKED_SERVER, "ok locked-server 2.1.1 rules=6 words=42\n"),
+        (PERMISSIVE_START, "ok permissive-start 0.1.0 rules=2 words=29\n"),
+    ] {
+        let (status, written) = answered(rt.alloc(), &["lint"], text.as_bytes())?;
+        assert_eq!(rt; status, 0, "{text}");
+        assert_eq!(rt; written.as_slice(), answer.as_bytes(), "{text}");
+    }
+    Ok(())
+}
