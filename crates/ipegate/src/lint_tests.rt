@@ -2,7 +2,8 @@ use super::tests::answered;
 use std::test::Fail;
 
 /// examples/sealed_appliance.policy
-const SEALED_APPLIANCE: &str = "# A sealed appliance: nothing runs but what was in the boot image or is on the signed volume.
+const SEALED_APPLIANCE: &str =
+    "# A sealed appliance: nothing runs but what was in the boot image or is on the signed volume.
 policy_name=sealed-appliance policy_version=1.4.0
 DEFAULT action=DENY
 op=EXECUTE boot_verified=TRUE action=ALLOW
@@ -13,7 +14,8 @@ op=POLICY boot_verified=TRUE action=ALLOW
 ";
 
 /// examples/locked_server.policy
-const LOCKED_SERVER: &str = "# A locked server: signed volumes and signed files run, but for one volume whose root is revoked.
+const LOCKED_SERVER: &str =
+    "# A locked server: signed volumes and signed files run, but for one volume whose root is revoked.
 policy_name=locked-server policy_version=2.1.1
 DEFAULT action=DENY
 op=EXECUTE dmverity_roothash=sha256:4f1f0a2c9d3b6e8877665544332211000f1e2d3c4b5a69788796a5b4c3d2e1f0 action=DENY\t# revoked in November
@@ -26,7 +28,8 @@ DEFAULT op=FIRMWARE action=ALLOW
 ";
 
 /// examples/permissive_start.policy
-const PERMISSIVE_START: &str = "# A permissive start: everything is allowed, but for kernel images that are not of the boot image.
+const PERMISSIVE_START: &str =
+    "# A permissive start: everything is allowed, but for kernel images that are not of the boot image.
 policy_name=permissive-start policy_version=0.1.0
 DEFAULT action=ALLOW
 op=KEXEC_IMAGE boot_verified=FALSE action=DENY
@@ -203,9 +206,15 @@ fn each_fault_of_a_statement_is_named(rt: HostRuntime) -> Result<(), Fail> {
 #[test]
 fn the_examples_are_policies(rt: HostRuntime) -> Result<(), Fail> {
     for (text, answer) in [
-        (SEALED_APPLIANCE, "ok sealed-appliance 1.4.0 rules=5 words=35\n"),
+        (
+            SEALED_APPLIANCE,
+            "ok sealed-appliance 1.4.0 rules=5 words=35\n",
+        ),
         (LOCKED_SERVER, "ok locked-server 2.1.1 rules=6 words=42\n"),
-        (PERMISSIVE_START, "ok permissive-start 0.1.0 rules=2 words=29\n"),
+        (
+            PERMISSIVE_START,
+            "ok permissive-start 0.1.0 rules=2 words=29\n",
+        ),
     ] {
         let (status, written) = answered(rt.alloc(), &["lint"], text.as_bytes())?;
         assert_eq!(rt; status, 0, "{text}");

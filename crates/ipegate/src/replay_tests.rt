@@ -165,3 +165,153 @@ fn other_words_are_refused(rt: HostRuntime) -> Result<(), Fail> {
     Ok(())
 }
 
+/// What stands before the hook line of a request file whose policy has this rule behind its default.
+fn with_rule(alloc: Global, rule: &str, hook: &str) -> Result<String, AllocError> {
+    let head = format!(in alloc;
+        "ipe-requests 1\nworkers 1\ntext a 3\npolicy_name=a policy_version=1.0.0\nDEFAULT action=DENY\n{rule}\ntext init 1\nhello\n"
+    )?;
+    let mut text = head;
+    text.push_str("file /init boot rootfs 2 init\nmark policy trusted text a\nphase\n")?;
+    text.push_str("admin write new_policy text a\nadmin write policies/a/active echo 1\nphase\n")?;
+    text.push_str(hook)?;
+    text.push_str("\nend\n")?;
+    Ok(text)
+}
+
+/// The transcript of such a file, with this answer to its hook.
+fn with_answer(alloc: Global, answer: &str) -> Result<String, AllocError> {
+    format!(in alloc;
+        "ipe-transcript 1\nphase 1\nline=12 admin code=0 epoch=0\nline=13 admin code=0 epoch=1\nphase 2\nline=15 w1 {answer}\nend\n"
+    )
+}
+
+const BOOT_RULE: &str = "op=EXECUTE boot_verified=TRUE action=ALLOW";
+
+const ALLOWED: &str = "code=0 epoch=1 count=0 policy=1 by=rule:1";
+
+const DENIED: &str = "code=-13 epoch=1 count=0 policy=1 by=global";
+
+const NOT_EVALUATED: &str = "code=0 epoch=- count=- policy=- by=-";
+
+#[test]
+fn each_hook_is_answered(rt: HostRuntime) -> Result<(), Fail> {
+    let without =
+        "op=FIRMWARE boot_verified=FALSE dmverity_signature=FALSE fsverity_signature=FALSE action=ALLOW";
+    let of_a_root =
+        "op=FIRMWARE dmverity_roothash=sha256:076a27c79e5ace2a3d47f9dd2e83e4ff6ea8872b3c2218f66c92b89b55f36560 action=ALLOW";
+    for (rule, hook, answer) in [
+        (BOOT_RULE, "w1 mprotect 5 ld 1 4 /init", NOT_EVALUATED),
+        (BOOT_RULE, "w1 mmap 5 ld 1 /init", NOT_EVALUATED),
+        (BOOT_RULE, "w1 mprotect 5 ld 0 4 -", DENIED),
+        (BOOT_RULE, "w1 mprotect 5 ld 0 4 /init", ALLOWED),
+        (BOOT_RULE, "w1 read 3 udev firmware /init", DENIED),
+        (without, "w1 load 3 udev firmware", ALLOWED),
+        (without, "w1 load 3 udev module", DENIED),
+        (without, "w1 read 3 udev firmware /init", DENIED),
+        (of_a_root, "w1 load 3 udev firmware", DENIED),
+    ] {
+        let input = with_rule(rt.alloc(), rule, hook)?;
+        let (status, written) = answered(rt.alloc(), &["replay"], input.as_bytes())?;
+        assert_eq!(rt; status, 0, "{hook}");
+        let expected = with_answer(rt.alloc(), answer)?;
+        assert_eq!(rt; written.as_slice(), expected.as_bytes(), "{hook}");
+    }
+    Ok(())
+}
+
+#[test]
+fn each_kind_has_its_operation(rt: HostRuntime) -> Result<(), Fail> {
+    for (kind, operation) in [
+        ("firmware", "FIRMWARE"),
+        ("module", "KMODULE"),
+        ("kexec-image", "KEXEC_IMAGE"),
+        ("kexec-initramfs", "KEXEC_INITRAMFS"),
+        ("policy", "POLICY"),
+        ("x509", "X509_CERT"),
+    ] {
+        let rule = format!(in rt.alloc(); "op={operation} action=ALLOW")?;
+        let hook = format!(in rt.alloc(); "w1 read 3 udev {kind} /init")?;
+        let input = with_rule(rt.alloc(), rule.as_str(), hook.as_str())?;
+        let (status, written) = answered(rt.alloc(), &["replay"], input.as_bytes())?;
+        assert_eq!(rt; status, 0, "{kind}");
+        let expected = with_answer(rt.alloc(), ALLOWED)?;
+        assert_eq!(rt; written.as_slice(), expected.as_bytes(), "{kind}");
+    }
+    Ok(())
+}
+
+/// Of the protection bits only the one of value 4 makes a mapping executable.
+#[test]
+fn the_bit_of_value_4_is_evaluated(rt: HostRuntime) -> Result<(), Fail> {
+    for (prot, answer) in [
+        ("0", NOT_EVALUATED),
+        ("1", NOT_EVALUATED),
+        ("2", NOT_EVALUATED),
+        ("3", NOT_EVALUATED),
+        ("4", ALLOWED),
+        ("5", ALLOWED),
+        ("6", ALLOWED),
+        ("7", ALLOWED),
+        ("8", NOT_EVALUATED),
+        ("4294967291", NOT_EVALUATED),
+        ("4294967295", ALLOWED),
+    ] {
+        let expected = with_answer(rt.alloc(), answer)?;
+        for hook in ["mmap 5 ld", "mprotect 5 ld 0"] {
+            let hook = format!(in rt.alloc(); "w1 {hook} {prot} /init")?;
+            let input = with_rule(rt.alloc(), BOOT_RULE, hook.as_str())?;
+            let (status, written) = answered(rt.alloc(), &["replay"], input.as_bytes())?;
+            assert_eq!(rt; status, 0, "{hook}");
+            assert_eq!(rt; written.as_slice(), expected.as_bytes(), "{hook}");
+        }
+    }
+    Ok(())
+}
+
+/// Hooks that aren't evaluated stand before and behind others.
+const NOT_EVALUATED_HOOKS: &str = "ipe-requests 1
+workers 1
+text a 3
+policy_name=a policy_version=1.0.0
+DEFAULT action=DENY
+op=EXECUTE boot_verified=TRUE action=ALLOW
+text init 1
+hello
+file /init boot rootfs 2 init
+mark policy trusted text a
+phase
+w1 mmap 5 ld 3 /init
+phase
+admin write new_policy text a
+admin write policies/a/active echo 1
+w1 mmap 5 ld 1 /init
+w1 mprotect 5 ld 1 4 -
+w1 exec 1 init /init
+w1 mmap 5 ld 2 /init
+w1 load 3 udev policy
+end
+";
+
+const NOT_EVALUATED_HOOKS_ANSWER: &str = "ipe-transcript 1
+phase 1
+line=12 w1 code=0 epoch=- count=- policy=- by=-
+phase 2
+line=16 w1 code=0 epoch=- count=- policy=- by=-
+line=17 w1 code=0 epoch=- count=- policy=- by=-
+line=14 admin code=0 epoch=0
+line=15 admin code=0 epoch=1
+line=18 w1 code=0 epoch=1 count=0 policy=1 by=rule:1
+line=19 w1 code=0 epoch=- count=- policy=- by=-
+line=20 w1 code=-13 epoch=1 count=1 policy=1 by=global
+end
+";
+
+#[test]
+fn hooks_without_a_place_stand_behind_their_workers_previous_line(
+    rt: HostRuntime,
+) -> Result<(), Fail> {
+    let (status, written) = answered(rt.alloc(), &["replay"], NOT_EVALUATED_HOOKS.as_bytes())?;
+    assert_eq!(rt; status, 0);
+    assert_eq!(rt; written.as_slice(), NOT_EVALUATED_HOOKS_ANSWER.as_bytes());
+    Ok(())
+}
