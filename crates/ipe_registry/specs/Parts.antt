@@ -1,5 +1,5 @@
 -- The parts of an answer, in the order in which a command's conditions are looked at.
-use Rattle.std.specs.Prelude.{◌≡◌, ℕ, ◌==◌, ◌&&◌, not, nat_lt, nat_le, if◌then◌else◌, List, length, Option, None, Some, is_some, Result, Ok, Err, slice_get}
+use Rattle.std.specs.Prelude.{◌≡◌, ◌≤◌, ℕ, ◌==◌, ◌&&◌, not, nat_lt, nat_le, if◌then◌else◌, List, length, Option, None, Some, is_some, Result, Ok, Err, slice_get}
 use Rattle.std.specs.Option.{option_map_or}
 use Rattle.sha2.specs.Sha256.{sha256}
 use Rattle.ipe_policy.specs.declared.version.Version.{Version}
@@ -34,9 +34,9 @@ taken_of verdicts text =
     else if is_unknown (verdict_on verdicts text) then Err NoKey
     else read_as (reading text)
 
--- a policy and a digest that a text brings
+-- a policy, whose image fits, and a digest that a text brings
 abbrev pub Brings : Verdicts → List ℕ → PolicyParts → List ℕ → Type 0
-Brings verdicts text policy digest = (taken_of verdicts text ≡ Ok policy) × (reading text ≡ Ok policy) × (digest ≡ sha256 text)
+Brings verdicts text policy digest = (taken_of verdicts text ≡ Ok policy) × (reading text ≡ Ok policy) × (digest ≡ sha256 text) × (words_of_image policy.items ≤ most_words)
 
 -- what `taken` says of a text
 abbrev pub IsTaken : Verdicts → List ℕ → Result (PolicyParts × List ℕ) Refusal → Type 0

@@ -29,12 +29,13 @@ impl Model for Entry {
 }
 
 impl Entry {
-    ghost use Rattle.std.specs.Prelude.{◌≡◌, Ok, IfOk};
+    ghost use Rattle.std.specs.Prelude.{◌≡◌, ◌≤◌, Ok, IfOk};
     ghost use Rattle.sha2.specs.Sha256.{sha256};
+    ghost use Rattle.ipe_policy.specs.Spelling.{words_of_image};
     ghost use Rattle.ipe_parse.specs.Reading.{reading};
     ghost use Rattle.ipe_machine.specs.Policies.{entry_of};
 
-    /// The entry of a text that reads as this policy, with a copy of the text.
+    /// The entry of a text that reads as this policy, whose image has at most 4,096 words, with a copy of the text.
     pub fn new(
         alloc: Global,
         serial: u64,
@@ -44,6 +45,7 @@ impl Entry {
     ) -> Result<Entry, AllocError>
         requires digest { digest ≡ sha256 text.now }
         requires policy { reading text.now ≡ Ok policy }
+        requires fits { words_of_image policy.items ≤ 4096 }
         ensures { IfOk result (λ entry. entry ≡ entry_of serial text.now) }
     {
         Ok(Entry {

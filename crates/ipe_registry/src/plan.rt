@@ -1,5 +1,6 @@
-ghost use Rattle.std.specs.Prelude.{◌≡◌, ◌<◌, ◌^◌, IfOk, OnErr, IsTrue, length};
+ghost use Rattle.std.specs.Prelude.{◌≡◌, ◌<◌, ◌≤◌, ◌^◌, IfOk, OnErr, IsTrue, length};
 ghost use Rattle.sha2.specs.Sha256.{sha256};
+ghost use Rattle.ipe_policy.specs.Spelling.{words_of_image};
 ghost use Rattle.ipe_parse.specs.Reading.{reading};
 ghost use Rattle.ipe_machine.specs.Policies.{place_of, is_active, active_entry};
 ghost use Rattle.ipe_machine.specs.Answer.{load_answer, update_answer, activate_answer, delete_answer, switch_answer};
@@ -139,6 +140,7 @@ impl Registry {
         requires serial { self.now.next < 2 ^ 63 }
         requires digest { digest ≡ sha256 text.now }
         requires policy { reading text.now ≡ Ok policy }
+        requires fits { words_of_image policy.items ≤ 4096 }
         ensures { IfOk result (IsPlanOf self.now (Act.Load text.now) (load_by self.now policy)) }
     {
         if place_of(&self.entries, policy.name.as_slice()).is_some() {
@@ -189,6 +191,7 @@ impl Registry {
         requires within { place < length self.now.loaded }
         requires digest { digest ≡ sha256 text.now }
         requires policy { reading text.now ≡ Ok policy }
+        requires fits { words_of_image policy.items ≤ 4096 }
         ensures { IfOk result (IsPlanOf self.now (Act.Update name.now text.now) (update_by self.now name.now (version_at self.now.loaded place) policy)) }
     {
         if policy.name.as_slice() != name.as_slice() {
