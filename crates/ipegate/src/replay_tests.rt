@@ -268,7 +268,7 @@ fn the_bit_of_value_4_is_evaluated(rt: HostRuntime) -> Result<(), Fail> {
     Ok(())
 }
 
-/// Hooks that aren't evaluated stand before and behind others.
+/// Hooks that aren't evaluated stand before and behind others: examples/hooks.requests
 const NOT_EVALUATED_HOOKS: &str = "ipe-requests 1
 workers 1
 text a 3
