@@ -1,5 +1,5 @@
 ghost use Rattle.std.specs.Prelude.{◌≡◌, ◌++◌, IfOk, OnOk, None};
-ghost use Rattle.ipe_audit.specs.Records.{activation_text, bit_text, enforce_text, load_text, new_text, old_text, told};
+ghost use Rattle.ipe_audit.specs.Records.{activation_text, bit_text, enforce_text, load_text, new_text, old_text, seen, told};
 
 use ipe_policy::{Name, Version};
 use std::alloc::{AllocError, Global};
@@ -62,7 +62,7 @@ fn append_question_marks(line: &mut Vec<u8>) -> Result<(), AllocError>
 }
 
 fn append_old(alloc: Global, line: &mut Vec<u8>, old: Option<&Brief>) -> Result<(), AllocError>
-    ensures { OnOk result (line.new.items ≡ line.old.items ++ old_text old.entry) }
+    ensures { OnOk result (line.new.items ≡ line.old.items ++ old_text (seen old.entry)) }
 {
     let keys = Keys {
         name: b"old_active_pol_name=\"",
@@ -92,7 +92,7 @@ pub fn activation_line(
     old: Option<&Brief>,
     new: &Brief,
 ) -> Result<Vec<u8>, AllocError>
-    ensures { IfOk result (λ line. line.items ≡ activation_text old.entry new.now) }
+    ensures { IfOk result (λ line. line.items ≡ activation_text (seen old.entry) new.now) }
 {
     let mut line = b"type=1421 ".to_vec(alloc)?;
     append_old(alloc, &mut line, old)?;
@@ -102,7 +102,8 @@ pub fn activation_line(
     Ok(line)
 }
 
-fn bit(on: bool) -> &'static [u8]
+// A truth value as a digit.
+pub fn bit(on: bool) -> &'static [u8]
     ensures { result.now ≡ bit_text on }
 {
     if on { b"1" } else { b"0" }

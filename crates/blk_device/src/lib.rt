@@ -1,0 +1,20 @@
+//! Devices: bytes under names, which a program asks for from a place on.
+//!
+//! [`Devices`] is what a reader needs of them. They may fail, and count it. [`MemoryDevices`] fail where it is planned,
+//! [`ImageDevices`] never do, and [`FileDevices`] are the files of a system.
+#![tactic(auto)]
+
+mod devices;
+mod files;
+mod image;
+mod memory;
+mod named_bytes;
+
+pub use devices::{DevError, Devices, VerityError};
+pub use files::FileDevices;
+pub use image::ImageDevices;
+pub use memory::MemoryDevices;
+pub use named_bytes::NamedBytes;
+
+#[cfg(test)]
+mod tests;

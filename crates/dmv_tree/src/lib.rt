@@ -1,0 +1,13 @@
+//! Builds the hash tree of an image, as dm-verity lays it out.
+//!
+//! [`layout`] says how many levels and hash blocks a tree has, and [`build`] hashes an image into its [`Tree`].
+#![tactic(auto)]
+
+mod shape;
+mod tree;
+
+pub use shape::{Shape, layout};
+pub use tree::{Tree, build};
+
+#[cfg(test)]
+mod tests;

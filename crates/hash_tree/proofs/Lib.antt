@@ -1,0 +1,6 @@
+pub mod Numbers
+pub mod Groups
+pub mod HashBlocks
+pub mod Levels
+pub mod Shapes
+pub mod Paths

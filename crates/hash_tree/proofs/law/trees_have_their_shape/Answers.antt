@@ -1,0 +1,11 @@
+use Rattle.hash_tree.proofs.Shapes.{levels_height, levels_lengths, levels_sizes}
+use Rattle.hash_tree.proofs.law.trees_have_their_shape.Goals as goal
+
+pub returns-clause-height : goal.returns-clause-height
+returns-clause-height c = levels_height
+
+pub returns-clause-lengths : goal.returns-clause-lengths
+returns-clause-lengths c = levels_lengths
+
+pub returns-clause-sizes : goal.returns-clause-sizes
+returns-clause-sizes c = levels_sizes

@@ -1,0 +1,5 @@
+pub mod Chunks
+pub mod Tree
+pub mod Shape
+pub mod Path
+pub mod Law

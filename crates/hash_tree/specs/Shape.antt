@@ -1,0 +1,17 @@
+-- The shape of a hash tree, in numbers.
+use Rattle.std.specs.Prelude.{◌≡◌, ℕ, ◌-◌, ◌/◌, ◌^◌, ◌<◌, map, sum}
+use Rattle.std.specs.Int.{div_ceil}
+use Rattle.std.specs.List.{range_with_len}
+
+-- with h digests in a hash block, n blocks have L levels above them: L is the least whose h ^ L blocks hold all n
+pub record IsHeight (h n L : ℕ) : Type 0 where
+  pub holds_all : (n - 1) / h ^ L ≡ 0
+  pub least : (fewer : ℕ) → fewer < L → 0 < (n - 1) / h ^ fewer
+
+-- how many blocks level k has: level 0 has the n blocks of the data
+abbrev pub level_blocks : ℕ → ℕ → ℕ → ℕ
+level_blocks h n k = div_ceil n (h ^ k)
+
+-- how many blocks the levels from 1 to L have
+unfoldable pub blocks_above : ℕ → ℕ → ℕ → ℕ
+blocks_above h n L = sum (map (level_blocks h n) (range_with_len 1 L))

@@ -1,0 +1,13 @@
+pub mod WordLists
+pub mod Bytes
+pub mod Compare
+pub mod Splits
+pub mod Sizes
+pub mod Places
+pub mod Records
+pub mod Told
+pub mod Deciders
+pub mod Roundtrip
+pub mod Policies
+pub mod Unpacking
+pub mod Texts

@@ -1,0 +1,104 @@
+-- How many words images have.
+use Rattle.std.proofs.Common.{◌≡◌, ℕ, ◌+◌, ◌*◌, ◌≤◌, true, List, [], ◌∷◌, length, sum_by, refl, arith, length-append}
+use Rattle.std.specs.List.{list_all, flat_map}
+use Rattle.std.proofs.lemmas.Bool.{and_parts}
+use Rattle.std.proofs.lemmas.List.Sums.{sum_by-cons}
+use borrow.Author.Tests.{leb-true}
+use Rattle.ipe_policy.specs.declared.statement.Property.{Property}
+use Rattle.ipe_policy.specs.declared.statement.Property.TheVariants.{BootVerified, DmverityRoothash, DmveritySignature, FsverityDigest, FsveritySignature}
+use Rattle.ipe_policy.specs.Statement.{RuleParts}
+use Rattle.ipe_policy.specs.Spelling.{property_words, rule_words, words_for}
+use Rattle.ipe_image.specs.Packing.{byte_words}
+use Rattle.ipe_image.specs.Image.{named_digest, property_image, rule_record, records}
+use Rattle.ipe_image.specs.Reading.{fits_property, fits_rule}
+use Rattle.ipe_image.proofs.Bytes.{length-words_of}
+
+-- a property's words, by the lengths of its digest
+words-by-lengths : (property : Property)
+    → property_words property ≡ 1 + words_for (length (named_digest property).alg) + words_for (length
+    (named_digest property).bytes)
+words-by-lengths (BootVerified wanted) = refl
+words-by-lengths (DmveritySignature wanted) = refl
+words-by-lengths (FsveritySignature wanted) = refl
+words-by-lengths (DmverityRoothash digest) = refl
+words-by-lengths (FsverityDigest digest) = refl
+
+pub length-property_image : (property : Property) → length (property_image property) ≡ property_words property
+length-property_image property =
+    let alg = (named_digest property).alg in
+    let bytes = (named_digest property).bytes in
+    omega (
+      arith,
+      words-by-lengths property,
+      length-append (byte_words alg) (byte_words bytes),
+      length-words_of
+          (words_for (length alg)) alg,
+      length-words_of (words_for (length bytes)) bytes,
+    )
+
+pub length-properties : (properties : List Property)
+    → length (flat_map property_image properties) ≡ sum_by property_words properties
+length-properties [] = refl
+length-properties (property ∷ properties) =
+    omega (
+      arith,
+      length-append (property_image property)
+          (flat_map property_image properties),
+      length-property_image property,
+      length-properties properties,
+      sum_by-cons property_words property properties,
+    )
+
+pub length-rule_record : (number : ℕ) (rule : RuleParts) → length (rule_record number rule) ≡ rule_words rule
+length-rule_record number rule = omega (arith, length-properties rule.properties)
+
+pub length-records : (number : ℕ) (rules : List RuleParts) → length (records number rules) ≡ sum_by rule_words rules
+length-records number [] = refl
+length-records number (rule ∷ rules) =
+    omega (
+      arith,
+      length-append (rule_record number rule) (records
+          (number + 1) rules),
+      length-rule_record number rule,
+      length-records
+          (number + 1) rules,
+      sum_by-cons rule_words rule rules,
+    )
+
+-- a property that fits has at most 11 words
+pub few-property_words : (property : Property) → fits_property property ≡ true → property_words property ≤ 11
+few-property_words property fits =
+    let both = and_parts _ _ fits in
+    let alg : length (named_digest property).alg ≤ 16 = leb-true _ 16 (and_parts _ _ both.0).0 in
+    let bytes : length (named_digest property).bytes ≤ 64 = leb-true _ 64 (and_parts _ _ both.1).0 in
+    omega (arith, words-by-lengths property)
+
+few-properties : (properties : List Property) → list_all fits_property properties ≡ true
+    → sum_by property_words properties ≤ 11 * length properties
+few-properties [] fit = omega arith
+few-properties (property ∷ properties) fit =
+    let parts = and_parts (fits_property property) (list_all fits_property properties) fit in
+    omega (
+      arith,
+      few-property_words property parts.0,
+      few-properties properties parts.1,
+      sum_by-cons property_words
+          property properties,
+    )
+
+-- a rule that fits has at most 16 properties and 177 words
+pub few-rule_properties : (rule : RuleParts) → fits_rule rule ≡ true → length rule.properties ≤ 16
+few-rule_properties rule fits = leb-true _ 16 (and_parts _ _ fits).0
+
+pub few-rule_words : (rule : RuleParts) → fits_rule rule ≡ true → rule_words rule ≤ 177
+few-rule_words rule fits = omega (
+  arith,
+  few-rule_properties rule fits,
+  few-properties rule.properties
+      (and_parts _ _ fits).1,
+)
+
+-- there are no more rules than words of rules
+pub fewer-rules : (rules : List RuleParts) → length rules ≤ sum_by rule_words rules
+fewer-rules [] = omega arith
+fewer-rules (rule ∷ rules) = omega (arith, fewer-rules rules, sum_by-cons rule_words rule rules)

@@ -1,0 +1,37 @@
+use Rattle.std.proofs.Common.{◌≡◌, ◌∙◌, ◌+◌, ◌≤◌, List, ℕ, length, true, ap, arith, subst, length-append}
+use Rattle.std.specs.Prelude.{nat_le}
+use Rattle.std.specs.List.{list_all}
+use borrow.Author.Tests.{leb-true}
+use Rattle.std.proofs.lemmas.Bool.{and_parts, and_from}
+use Rattle.ipe_policy.specs.Spelling.{words_for}
+use Rattle.ipe_image.specs.Packing.{byte_words}
+use Rattle.ipe_image.specs.Reading.{is_byte}
+use Rattle.ipe_image.proofs.Bytes.{length-words_of}
+use Rattle.ipe_image.proofs.record.append_digest.Goals as goal
+
+pub append_bytes-requires-2 : goal.append_bytes-requires-2
+append_bytes-requires-2 c =
+    let alg : length c.args.digest.now.alg ≤ 16 =
+    leb-true (length c.args.digest.now.alg) 16 (and_parts (nat_le 1 (length c.args.digest.now.alg)) (nat_le
+    (length c.args.digest.now.alg) 16) (and_parts _ _ c.as_slice-alg.ensures.rule).0).1 in
+    let bytes : length c.args.digest.now.bytes ≤ 64 =
+    leb-true (length c.args.digest.now.bytes) 64 c.as_slice-bytes.ensures.rule in
+    let alg_len : length c.as_slice-alg.result.now ≡ length c.args.digest.now.alg =
+    ap length c.as_slice-alg.ensures.bytes in
+    let bytes_len : length c.as_slice-bytes.result.now ≡ length c.args.digest.now.bytes =
+    ap length c.as_slice-bytes.ensures.bytes in
+    let first : length c.append_bytes.new.words.items ≡ length c.push.new.self.items + words_for
+    (length c.as_slice-alg.result.now) =
+    ap length c.append_bytes.ensures.words
+    ∙ length-append c.push.new.self.items (byte_words c.as_slice-alg.result.now)
+    ∙ ap (λ (n : ℕ). length c.push.new.self.items + n) (length-words_of (words_for
+    (length c.as_slice-alg.result.now)) c.as_slice-alg.result.now) in
+    omega arith
+
+pub returns-clause-fits : goal.returns-clause-fits
+returns-clause-fits c =
+    and_from _ _
+    (and_from _ _ (and_parts _ _ (and_parts _ _ c.as_slice-alg.ensures.rule).0).1 (subst (λ
+    (bs : List ℕ). list_all is_byte bs ≡ true) c.as_slice-alg.ensures.bytes c.append_bytes.ensures.bytes))
+    (and_from _ _ c.as_slice-bytes.ensures.rule (subst (λ
+    (bs : List ℕ). list_all is_byte bs ≡ true) c.as_slice-bytes.ensures.bytes c.append_bytes-2.ensures.bytes))

@@ -1,0 +1,11 @@
+pub mod Packing
+pub mod Parts
+pub mod Image
+pub mod Reading
+pub mod Heads
+pub mod Reader
+pub mod Decision
+pub mod Answer
+pub mod Found
+pub mod Law
+pub mod Compiling

@@ -1,0 +1,192 @@
+ghost use Rattle.std.specs.Prelude.{◌≡◌, ◌≤◌, ◌++◌, ◌∷◌, IfOk, IfErr, IsTrue, OnOk, Some, is_some, length, map, replicate, slice_get};
+ghost use Rattle.std.specs.List.{filter_map};
+ghost use Rattle.ipe_policy.specs.Policy.{global_defaults, op_defaults};
+ghost use Rattle.ipe_policy.specs.Spelling.{words_of_image};
+ghost use Rattle.ipe_policy.specs.Statement.{global_default_of, op_default_of, operations, rule_of};
+ghost use Rattle.ipe_image.specs.Compiling.{Refuses};
+ghost use Rattle.ipe_image.specs.Image.{default_word, image_of};
+ghost use Rattle.ipe_image.specs.Parts.{parts_of};
+ghost use Rattle.ipe_image.specs.Reader.{filled};
+ghost use Rattle.ipe_image.specs.Reading.{image_in};
+
+use crate::head::action_number;
+use crate::record::append_records;
+use ipe_policy::{Action, Op, Policy, Statement, image_words};
+use std::alloc::{AllocError, Global};
+use std::marker::Model;
+use thiserror::Error;
+
+/// The most words of an image.
+const MOST_WORDS: u64 = 4096;
+
+const OPERATIONS: [Op; 7] = [
+    Op::Execute,
+    Op::Firmware,
+    Op::Kmodule,
+    Op::KexecImage,
+    Op::KexecInitramfs,
+    Op::Policy,
+    Op::X509Cert,
+];
+
+/// Why a policy has no image.
+#[derive(Debug, Drop, Error)]
+pub enum CompileError {
+    #[error("the policy needs {words} words of at most 4096")]
+    TooWide { words: u64 },
+    #[error("out of memory")]
+    NoMemory,
+}
+
+impl From<AllocError> for CompileError {
+    ghost use Rattle.std.specs.Prelude.{◌≡◌};
+    ghost use Rattle.ipe_image.specs.declared.compiling.CompileError.TheVariants.{NoMemory};
+
+    ghost from_gives = { λ _ e. e ≡ NoMemory };
+
+    fn from(_: AllocError) -> Self {
+        CompileError::NoMemory
+    }
+}
+
+/// The image of a policy: at most 4,096 words.
+#[derive(Debug, Drop)]
+pub struct Image {
+    words: Vec<u64>,
+}
+
+impl Model for Image {
+    ghost use Rattle.std.specs.Prelude.{◌≤◌, IsTrue, List, ℕ, is_some, length};
+    ghost use Rattle.ipe_image.specs.Reading.{image_in};
+
+    ghost Value = { List ℕ };
+
+    ghost view = { λ s. s.words.items };
+
+    ghost invariant = { λ s. (length s.words.items ≤ 4096) × IsTrue (is_some (image_in s.words.items)) };
+}
+
+impl Image {
+    /// The words, in order.
+    pub fn words(&self) -> &[u64]
+        ensures words { result.now ≡ self.now }
+        ensures few { length self.now ≤ 4096 }
+        ensures told { IsTrue (is_some (image_in self.now)) }
+        ensures filled { IsTrue (is_some (image_in (filled 4096 self.now))) }
+    {
+        self.words.as_slice()
+    }
+}
+
+fn default_word(default: Option<Action>) -> u64
+    ensures { result ≡ default_word default }
+{
+    match default {
+        Some(action) => action_number(action),
+        None => 0,
+    }
+}
+
+fn op_default_of(item: &Statement, op: Op) -> Option<Action>
+    ensures { result ≡ op_default_of op item.now }
+{
+    match item {
+        Statement::OpDefault { op: of, action } => (op == *of).then_some(*action),
+        _ => None,
+    }
+}
+
+fn global_default_of(item: &Statement) -> Option<Action>
+    ensures { result ≡ global_default_of item.now }
+{
+    match item {
+        Statement::GlobalDefault { action } => Some(*action),
+        _ => None,
+    }
+}
+
+// The first default of the operation.
+fn op_default(items: &[Statement], op: Op) -> Option<Action>
+    ensures { result ≡ slice_get (op_defaults op items.now) 0 }
+{
+    for item in items {
+        if let Some(action) = op_default_of(item, op) {
+            return Some(action);
+        }
+    }
+    None
+}
+
+// The first global default.
+fn global_default(items: &[Statement]) -> Option<Action>
+    ensures { result ≡ slice_get (global_defaults items.now) 0 }
+{
+    for item in items {
+        if let Some(action) = global_default_of(item) {
+            return Some(action);
+        }
+    }
+    None
+}
+
+fn rule_count(items: &[Statement]) -> u64
+    ensures { result ≡ length (filter_map rule_of items.now) }
+{
+    let mut count = 0;
+    for item in items {
+        if let Statement::Rule { .. } = item {
+            count += 1;
+        }
+    }
+    count
+}
+
+// Puts the default of each operation behind the words, in their order.
+fn append_defaults(image: &mut Vec<u64>, items: &[Statement]) -> Result<(), AllocError>
+    ensures { OnOk result (image.new.items ≡ image.old.items
+        ++ map (λ op. default_word (slice_get (op_defaults op items.now) 0)) operations) }
+{
+    for op in OPERATIONS {
+        image.push(default_word(op_default(items, op)))?;
+    }
+    Ok(())
+}
+
+// Puts the words before the records behind the words.
+fn append_head(
+    image: &mut Vec<u64>,
+    items: &[Statement],
+    words: u64,
+    serial: u64,
+) -> Result<(), AllocError>
+    ensures { OnOk result (image.new.items ≡ image.old.items
+        ++ words ∷ serial ∷ default_word (slice_get (global_defaults items.now) 0)
+        ∷ (map (λ op. default_word (slice_get (op_defaults op items.now) 0)) operations
+        ++ length (filter_map rule_of items.now) ∷ replicate 14 0)) }
+{
+    image.push(words)?;
+    image.push(serial)?;
+    image.push(default_word(global_default(items)))?;
+    append_defaults(image, items)?;
+    image.push(rule_count(items))?;
+    image.extend_from_slice(&[0; 14])
+}
+
+/// The image of a policy, with this serial. A policy is too wide where it needs more than 4,096 words.
+pub fn compile(alloc: Global, policy: &Policy, serial: u64) -> Result<Image, CompileError>
+    ensures image { IfOk result (λ image. image ≡ image_of (parts_of serial policy.now.items)) }
+    ensures fits { OnOk result (words_of_image policy.now.items ≤ 4096) }
+    ensures told { IfOk result (λ image. image_in image ≡ Some (parts_of serial policy.now.items)) }
+    ensures filled { IfOk result (λ image. image_in (filled 4096 image) ≡ Some (parts_of serial policy.now.items)) }
+    ensures refused { IfErr result (Refuses (words_of_image policy.now.items)) }
+{
+    let words = image_words(policy);
+    if words > MOST_WORDS {
+        return Err(CompileError::TooWide { words });
+    }
+    let items = policy.items.as_slice();
+    let mut image = Vec::with_capacity(alloc, words as usize)?;
+    append_head(&mut image, items, words, serial)?;
+    append_records(&mut image, items)?;
+    Ok(Image { words: image })
+}

@@ -1,0 +1,139 @@
+ghost use Rattle.std.specs.Prelude.{◌≡◌, ◌≤◌, ◌<◌, ◌==◌, ℕ};
+ghost use Rattle.ipe_policy.specs.Spelling.{words_for};
+ghost use Rattle.ipe_policy.specs.Statement.{RuleParts, op_number};
+ghost use Rattle.ipe_policy.specs.declared.statement.Property.{Property};
+ghost use Rattle.ipe_image.specs.Image.{action_number, kind_number};
+ghost use Rattle.ipe_image.specs.Reading.{default_read};
+ghost use Rattle.ipe_image.specs.Heads.{IsPropertyHead, IsRuleHead, kind_code, kind_of, told_of_property, told_of_rule};
+
+use ipe_policy::{Action, Op};
+
+/// How many words some bytes fill.
+pub(crate) fn words_for(bytes: usize) -> usize
+    requires { bytes ≤ 255 }
+    ensures words { result ≡ words_for bytes }
+    ensures few { result ≤ 32 }
+{
+    bytes.div_ceil(8)
+}
+
+/// The action of a number, if it is one.
+pub(crate) fn action_of(number: u64) -> Option<Action>
+    ensures { result ≡ default_read number }
+{
+    match number {
+        1 => Some(Action::Allow),
+        2 => Some(Action::Deny),
+        _ => None,
+    }
+}
+
+/// The place of an operation in their order.
+pub(crate) fn op_number(op: Op) -> u32
+    ensures number { result ≡ op_number op }
+    ensures below { result < 7 }
+{
+    match op {
+        Op::Execute => 0,
+        Op::Firmware => 1,
+        Op::Kmodule => 2,
+        Op::KexecImage => 3,
+        Op::KexecInitramfs => 4,
+        Op::Policy => 5,
+        Op::X509Cert => 6,
+    }
+}
+
+/// The number of an action.
+pub(crate) fn action_number(action: Action) -> u64
+    ensures number { result ≡ action_number action }
+    ensures below { result < 3 }
+{
+    match action {
+        Action::Allow => 1,
+        Action::Deny => 2,
+    }
+}
+
+/// What the head of a rule tells: the rule's number, its operation's place in their order, its action, and how many
+/// words it has with the head.
+#[derive(Clone, Copy)]
+pub(crate) struct RuleHead {
+    pub number: u32,
+    pub op: u32,
+    pub action: Action,
+    pub words: u32,
+}
+
+impl RuleHead {
+    pub fn read(word: u64) -> RuleHead
+        ensures { (number : ℕ) (rule : RuleParts) → IsRuleHead word number rule → result ≡ told_of_rule number rule }
+    {
+        RuleHead {
+            number: (word % 0x1_0000_0000) as u32,
+            op: (word / 0x1_0000_0000 % 256) as u32,
+            action: action_of(word / 0x100_0000_0000 % 256).unwrap_or(Action::Deny),
+            words: (word / 0x100_0000_0000_0000) as u32,
+        }
+    }
+}
+
+/// The kinds of properties.
+#[derive(Clone, Copy)]
+pub(crate) enum Kind {
+    BootVerified,
+    DmveritySignature,
+    FsveritySignature,
+    DmverityRoothash,
+    FsverityDigest,
+}
+
+impl Kind {
+    pub fn number(self) -> u64
+        ensures number { result ≡ kind_code self }
+        ensures below { result < 5 }
+    {
+        match self {
+            Kind::BootVerified => 0,
+            Kind::DmveritySignature => 1,
+            Kind::FsveritySignature => 2,
+            Kind::DmverityRoothash => 3,
+            Kind::FsverityDigest => 4,
+        }
+    }
+
+    fn of_number(number: u64) -> Kind
+        ensures { (property : Property) → number ≡ kind_number property → result ≡ kind_of property }
+    {
+        match number {
+            0 => Kind::BootVerified,
+            1 => Kind::DmveritySignature,
+            2 => Kind::FsveritySignature,
+            3 => Kind::DmverityRoothash,
+            _ => Kind::FsverityDigest,
+        }
+    }
+}
+
+/// What the head of a property tells: its kind, the truth value that it wants, and how many bytes the name of its
+/// algorithm and its digest have.
+#[derive(Clone, Copy)]
+pub(crate) struct PropertyHead {
+    pub kind: Kind,
+    pub wanted: bool,
+    pub alg_len: usize,
+    pub digest_len: usize,
+}
+
+impl PropertyHead {
+    pub fn read(word: u64) -> PropertyHead
+        ensures { (property : Property) → IsPropertyHead word property → result ≡ told_of_property property }
+    {
+        PropertyHead {
+            kind: Kind::of_number(word % 256),
+            wanted: word / 256 % 256 == 1,
+            alg_len: (word / 0x1_0000 % 256) as usize,
+            digest_len: (word / 0x100_0000 % 256) as usize,
+        }
+    }
+}

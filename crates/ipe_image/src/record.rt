@@ -1,0 +1,137 @@
+ghost use Rattle.std.specs.Prelude.{◌≡◌, ◌+◌, ◌*◌, ◌≤◌, ◌^◌, [], ◌∷◌, ◌++◌, IsTrue, OnOk, length};
+ghost use Rattle.std.specs.List.{filter_map, flat_map, list_all};
+ghost use Rattle.arrayvec.specs.ArrayVec.{array_vec_len};
+ghost use Rattle.ipe_policy.specs.Spelling.{words_for};
+ghost use Rattle.ipe_policy.specs.Statement.{op_number, rule_of};
+ghost use Rattle.ipe_image.specs.Heads.{kind_code};
+ghost use Rattle.ipe_image.specs.Image.{action_number, property_image, records, rule_record, truth_number};
+ghost use Rattle.ipe_image.specs.Packing.{byte_words};
+ghost use Rattle.ipe_image.specs.Reading.{fits_digest, fits_property, fits_rule, is_byte};
+
+use crate::head::{Kind, action_number, op_number};
+use crate::packing::word_of;
+use arrayvec::ArrayVec;
+use ipe_policy::{Action, Digest, Op, Properties, Property, Statement};
+use std::alloc::AllocError;
+
+// The words of a rule's properties: at most 16 properties of 11 words each.
+type RuleWords = ArrayVec<u64, 176>;
+
+// Puts bytes behind the words, in whole words.
+fn append_bytes(words: &mut RuleWords, bytes: &[u8])
+    requires { array_vec_len words.old + words_for (length bytes.now) ≤ 176 }
+    ensures words { words.new.items ≡ words.old.items ++ byte_words bytes.now }
+    ensures bytes { IsTrue (list_all is_byte bytes.now) }
+{
+    let mut rest = bytes;
+    while !rest.is_empty() {
+        let (first, behind) = rest.split_at(rest.len().min(8));
+        words.push(word_of(first));
+        rest = behind;
+    }
+}
+
+fn append_truth(words: &mut RuleWords, kind: Kind, wanted: bool)
+    requires { array_vec_len words.old + 1 ≤ 176 }
+    ensures { words.new.items ≡ words.old.items ++ (kind_code kind + 2 ^ 8 * truth_number wanted) ∷ [] }
+{
+    words.push(kind.number() + 256 * u64::from(wanted));
+}
+
+fn append_digest(words: &mut RuleWords, kind: Kind, digest: &Digest)
+    requires { array_vec_len words.old + 11 ≤ 176 }
+    ensures words { words.new.items ≡ words.old.items
+        ++ (kind_code kind + 2 ^ 16 * length digest.now.alg + 2 ^ 24 * length digest.now.bytes)
+        ∷ (byte_words digest.now.alg ++ byte_words digest.now.bytes) }
+    ensures fits { IsTrue (fits_digest digest.now) }
+{
+    let alg = digest.alg.as_slice();
+    let bytes = digest.bytes.as_slice();
+    let alg_len = alg.len() as u64;
+    let digest_len = bytes.len() as u64;
+    words.push(kind.number() + 0x1_0000 * alg_len + 0x100_0000 * digest_len);
+    append_bytes(words, alg);
+    append_bytes(words, bytes);
+}
+
+fn append_property(words: &mut RuleWords, property: &Property)
+    requires { array_vec_len words.old + 11 ≤ 176 }
+    ensures words { words.new.items ≡ words.old.items ++ property_image property.now }
+    ensures fits { IsTrue (fits_property property.now) }
+{
+    match property {
+        Property::BootVerified(wanted) => append_truth(words, Kind::BootVerified, *wanted),
+        Property::DmveritySignature(wanted) => append_truth(
+            words,
+            Kind::DmveritySignature,
+            *wanted,
+        ),
+        Property::FsveritySignature(wanted) => append_truth(
+            words,
+            Kind::FsveritySignature,
+            *wanted,
+        ),
+        Property::DmverityRoothash(digest) => append_digest(words, Kind::DmverityRoothash, digest),
+        Property::FsverityDigest(digest) => append_digest(words, Kind::FsverityDigest, digest),
+    }
+}
+
+fn property_words(props: &[Property]) -> RuleWords
+    requires { length props.now ≤ 16 }
+    ensures words { result.items ≡ flat_map property_image props.now }
+    ensures few { array_vec_len result ≤ 176 }
+    ensures fit { IsTrue (list_all fits_property props.now) }
+{
+    let mut words = ArrayVec::new();
+    for property in props {
+        append_property(&mut words, property);
+    }
+    words
+}
+
+fn rule_head(number: u32, op: Op, action: Action, properties: usize, words: usize) -> u64
+    requires properties { properties ≤ 16 }
+    requires words { words ≤ 177 }
+    ensures { result ≡ number + 2 ^ 32 * op_number op + 2 ^ 40 * action_number action + 2 ^ 48 * properties
+        + 2 ^ 56 * words }
+{
+    u64::from(number)
+        + 0x1_0000_0000 * u64::from(op_number(op))
+        + 0x100_0000_0000 * action_number(action)
+        + 0x1_0000_0000_0000 * properties as u64
+        + 0x100_0000_0000_0000 * words as u64
+}
+
+fn append_rule(
+    image: &mut Vec<u64>,
+    number: u32,
+    op: Op,
+    props: &Properties,
+    action: Action,
+) -> Result<(), AllocError>
+    ensures words { OnOk result (image.new.items ≡ image.old.items
+        ++ rule_record number (record { op = op; properties = props.now; action = action })) }
+    ensures fits { IsTrue (fits_rule (record { op = op; properties = props.now; action = action })) }
+{
+    let props = props.as_slice();
+    let words = property_words(props);
+    let head = rule_head(number, op, action, props.len(), 1 + words.len());
+    image.push(head)?;
+    image.extend_from_slice(words.as_slice())
+}
+
+/// Puts the records of the rules behind the words of an image.
+pub(crate) fn append_records(image: &mut Vec<u64>, items: &[Statement]) -> Result<(), AllocError>
+    requires { length items.now ≤ 1048576 }
+    ensures words { OnOk result (image.new.items ≡ image.old.items ++ records 1 (filter_map rule_of items.now)) }
+    ensures fit { OnOk result (IsTrue (list_all fits_rule (filter_map rule_of items.now))) }
+{
+    let mut number: u32 = 0;
+    for item in items {
+        if let Statement::Rule { op, props, action } = item {
+            number += 1;
+            append_rule(image, number, *op, props, *action)?;
+        }
+    }
+    Ok(())
+}
