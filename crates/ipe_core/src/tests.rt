@@ -184,7 +184,10 @@ fn an_update_of_the_active_policy_rules_at_once(rt: HostRuntime) -> Result<(), F
     assert_eq!(rt; ruling.code, 0);
     assert_eq!(rt; ruling.place, Some(Place { epoch: 2, count: 0 }));
     assert_eq!(rt; ruling.serial, Some(2));
-    assert_eq!(rt; ruling.found.map(|found| found.which), Some(Which::GlobalDefault));
+    assert_eq!(rt;
+        ruling.found.map(|found| found.which),
+        Some(Which::GlobalDefault)
+    );
     let refused = [
         (Write::Update("a", A_LOWER), 2, -116),
         (Write::Update("a", X), 2, -22),
@@ -243,7 +246,10 @@ fn the_last_mark_of_a_policy_decides(rt: HostRuntime) -> Result<(), Fail> {
     assert_eq!(rt; load_marked(&rt, alloc, A, &[revoked])?, -129);
     assert_eq!(rt; load_marked(&rt, alloc, A, &[trusted, revoked])?, -129);
     assert_eq!(rt; load_marked(&rt, alloc, A, &[revoked, trusted])?, 0);
-    assert_eq!(rt; load_marked(&rt, alloc, "policy_name=a\n", &[trusted])?, -74);
+    assert_eq!(rt;
+        load_marked(&rt, alloc, "policy_name=a\n", &[trusted])?,
+        -74
+    );
     Ok(())
 }
 
@@ -252,7 +258,10 @@ fn a_text_over_the_limit_is_too_big(rt: HostRuntime) -> Result<(), Fail> {
     let alloc = rt.alloc();
     let mut state = State::new(alloc, 1)?;
     let act = Act::Load(Text::from_vec(vec![in alloc; b'#'; 1_048_577]?));
-    assert_eq!(rt; answer_to(&rt, alloc, &TrustsAll, &mut state, act)?, (0, -7));
+    assert_eq!(rt;
+        answer_to(&rt, alloc, &TrustsAll, &mut state, act)?,
+        (0, -7)
+    );
     let signer = TrustList::new(Marks::from_vec(Vec::new(alloc)));
     let act = Act::Load(Text::from_vec(vec![in alloc; b'#'; 1_048_577]?));
     assert_eq!(rt; answer_to(&rt, alloc, &signer, &mut state, act)?, (0, -7));
@@ -266,7 +275,9 @@ fn load_numbered(
     state: &mut State,
     number: u32,
 ) -> Result<i32, Fail> {
-    let text = format!(in alloc; "policy_name=p{number} policy_version=1.0.0\nDEFAULT action=DENY\n")?;
+    let text = format!(in alloc;
+        "policy_name=p{number} policy_version=1.0.0\nDEFAULT action=DENY\n"
+    )?;
     let act = Act::Load(text_of(alloc, text.as_str())?);
     Ok(answer_to(rt, alloc, &TrustsAll, state, act)?.1)
 }
@@ -276,7 +287,11 @@ fn thirty_two_policies_are_loaded(rt: HostRuntime) -> Result<(), Fail> {
     let alloc = rt.alloc();
     let mut state = State::new(alloc, 1)?;
     for number in 0..32 {
-        assert_eq!(rt; load_numbered(&rt, alloc, &mut state, number)?, 0, "{number}");
+        assert_eq!(rt;
+            load_numbered(&rt, alloc, &mut state, number)?,
+            0,
+            "{number}"
+        );
     }
     assert_eq!(rt; load_numbered(&rt, alloc, &mut state, 32)?, -28);
     assert_eq!(rt; load_numbered(&rt, alloc, &mut state, 7)?, -17);
@@ -300,9 +315,15 @@ fn an_image_of_4097_words_is_too_wide(rt: HostRuntime) -> Result<(), Fail> {
     let alloc = rt.alloc();
     let mut state = State::new(alloc, 1)?;
     let wide = Act::Load(rules(alloc, 4072)?);
-    assert_eq!(rt; answer_to(&rt, alloc, &TrustsAll, &mut state, wide)?, (0, -27));
+    assert_eq!(rt;
+        answer_to(&rt, alloc, &TrustsAll, &mut state, wide)?,
+        (0, -27)
+    );
     let widest = Act::Load(rules(alloc, 4071)?);
-    assert_eq!(rt; answer_to(&rt, alloc, &TrustsAll, &mut state, widest)?, (0, 0));
+    assert_eq!(rt;
+        answer_to(&rt, alloc, &TrustsAll, &mut state, widest)?,
+        (0, 0)
+    );
     Ok(())
 }
 
@@ -312,7 +333,11 @@ fn the_last_epoch_has_no_next(rt: HostRuntime) -> Result<(), Fail> {
     let mut state = State::new(alloc, 1)?;
     run_writes(&rt, alloc, &mut state, &[(Write::Load(A), 0, 0)])?;
     for epoch in 1..=65_535 {
-        let value = if epoch % 2 == 1 { Value::False } else { Value::True };
+        let value = if epoch % 2 == 1 {
+            Value::False
+        } else {
+            Value::True
+        };
         let answer = answer_to(&rt, alloc, &TrustsAll, &mut state, Act::Enforce(value))?;
         assert_eq!(rt; answer, (epoch, 0));
     }
