@@ -1,3 +1,9 @@
+pub mod Given
+pub mod Within
+pub mod WordedForms
+pub mod ReadPolicies
+pub mod WholePolicies
+pub mod Records
 pub mod Epochs
 pub mod Rising
 pub mod Cuts

@@ -8,11 +8,12 @@ use Rattle.ipe_policy.specs.Request.{evaluated_op}
 use Rattle.ipe_machine.specs.Machine.{Machine}
 use Rattle.ipe_script.specs.declared.script.PhaseLine.{PhaseLine}
 use Rattle.ipe_script.specs.declared.script.Task.{Task}
-use Rattle.ipe_script.specs.declared.script.Task.TheVariants.{Load, Activate, Hook}
+use Rattle.ipe_script.specs.declared.script.Task.TheVariants.{Write, Read, Hook}
 use Rattle.ipe_script.specs.Script.{Script, actor_of, actor_of_task}
-use Rattle.ipe_history.specs.Order.{Entry, Rises, UnplacedStand, key_of, entries_of, line_reply, after_line, after_lines, phases_entries, at_the_start, context_of, verdicts_of, NumbersRise, AllHooks, CommandsFirst, IsWeaveOf, IsWeave, IsInPlace, IsFileOrder}
+use Rattle.ipe_history.specs.Order.{Acted, Rises, UnplacedStand, key_of, entries_of, line_reply, after_line, after_lines, phases_entries, at_the_start, context_of, verdicts_of, NumbersRise, AllHooks, CommandsFirst, IsWeaveOf, IsWeave, IsInPlace, IsFileOrder}
 use Rattle.ipe_history.specs.Printed.{is_hook_task, is_hook, is_evaluated_task, is_evaluated, from_first, printed, printed_order}
 use Rattle.ipe_history.specs.Spelled.{NumbersBelow}
+use Rattle.ipe_history.specs.Worded.{AreWordedLines, HasWords, IsWordedTask}
 use Rattle.ipe_history.proofs.Cuts.{All_both, All_front, All_back, Fails, FirstPasses, before_fails, from_passes, cut, cut_length}
 use Rattle.ipe_history.proofs.Phases.{AllCommands}
 use Rattle.ipe_history.proofs.Epochs.{idle_claim, placed_claim, line_of, line_key}
@@ -20,14 +21,14 @@ use Rattle.ipe_history.proofs.Rising.{keys_of, lines_rise, command_placed}
 
 -- who acts by a hook
 hook_actor : (task : Task) → is_hook_task task ≡ true → actor_of_task task ≡ 1
-hook_actor (Load text) hook = absurd (false≢true hook)
-hook_actor (Activate name) hook = absurd (false≢true hook)
+hook_actor (Write may node content) hook = absurd (false≢true hook)
+hook_actor (Read node) hook = absurd (false≢true hook)
 hook_actor (Hook request subject file) hook = refl
 
 -- who acts by another task
 command_actor : (task : Task) → is_hook_task task ≡ false → actor_of_task task ≡ 0
-command_actor (Load text) command = refl
-command_actor (Activate name) command = refl
+command_actor (Write may node content) command = refl
+command_actor (Read node) command = refl
 command_actor (Hook request subject file) command = absurd (true≢false command)
 
 -- lines that aren't hooks' are commands'
@@ -82,15 +83,15 @@ parted lines numbers first =
 -- a hook that isn't evaluated leaves the machine as it is, and has no place
 idle_task : (script : Script) (machine : Machine) (number : ℕ) (task : Task) → actor_of_task task ≡ 1 → is_evaluated_task task ≡ false
     → (after_line script machine (line_of number task) ≡ machine) × (line_key script machine (line_of number task) ≡ None)
-idle_task script machine number (Load text) hook idle = absurd (omega (arith, hook))
-idle_task script machine number (Activate name) hook idle = absurd (omega (arith, hook))
+idle_task script machine number (Write may node content) hook idle = absurd (omega (arith, hook))
+idle_task script machine number (Read node) hook idle = absurd (omega (arith, hook))
 idle_task script machine number (Hook request subject file) hook idle =
     idle_claim (verdicts_of script) machine (evaluated_op request) (context_of file) idle
 
 -- a hook that is evaluated has a place
 placed_task : (script : Script) (machine : Machine) (number : ℕ) (task : Task) → is_evaluated_task task ≡ true → line_key script machine (line_of number task) ≡ None → ⊥
-placed_task script machine number (Load text) evaluated none = false≢true evaluated
-placed_task script machine number (Activate name) evaluated none = false≢true evaluated
+placed_task script machine number (Write may node content) evaluated none = false≢true evaluated
+placed_task script machine number (Read node) evaluated none = false≢true evaluated
 placed_task script machine number (Hook request subject file) evaluated none =
     placed_claim machine (evaluated_op request) (context_of file) evaluated none
 
@@ -106,32 +107,32 @@ keys_behind script machine (line ∷ early) rest hooks idle =
 
 -- the lines' entries stand as they must, from each machine on and behind whatever entries
 abbrev Stand : Script → List PhaseLine → Type 0
-Stand script lines = (machine : Machine) (before : List Entry) → UnplacedStand before (entries_of script machine lines)
+Stand script lines = (machine : Machine) (before : List Acted) → UnplacedStand before (entries_of script machine lines)
 
 -- the entry of a line
-abbrev entry_of : Script → Machine → PhaseLine → Entry
-entry_of script machine line = record { line = line; reply = line_reply script machine line; before = machine.policies.epoch }
+abbrev acted_of : Script → Machine → PhaseLine → Acted
+acted_of script machine line = record { line = line; reply = line_reply script machine line; before = machine.policies.epoch }
 
 -- hooks' lines stand directly behind a hook's
-behind_hook : (script : Script) (machine : Machine) (previous : Entry) (before : List Entry) (hooks rest : List PhaseLine) → actor_of previous.line ≡ 1 → AllHooks hooks → Stand script rest
+behind_hook : (script : Script) (machine : Machine) (previous : Acted) (before : List Acted) (hooks rest : List PhaseLine) → actor_of previous.line ≡ 1 → AllHooks hooks → Stand script rest
     → UnplacedStand (previous ∷ before) (entries_of script machine (hooks ++ rest))
 behind_hook script machine previous before [] rest own all stand = stand machine (previous ∷ before)
 behind_hook script machine previous before (line ∷ hooks) rest own all stand =
-    ((λ none. inl (own ∙ sym all.0)), behind_hook script (after_line script machine line) (entry_of script machine line) (previous ∷ before) hooks rest all.0 all.1 stand)
+    ((λ none. inl (own ∙ sym all.0)), behind_hook script (after_line script machine line) (acted_of script machine line) (previous ∷ before) hooks rest all.0 all.1 stand)
 
 -- hooks' lines stand at the beginning
 at_beginning : (script : Script) (machine : Machine) (hooks rest : List PhaseLine) → AllHooks hooks → Stand script rest
     → UnplacedStand [] (entries_of script machine (hooks ++ rest))
 at_beginning script machine [] rest all stand = stand machine []
 at_beginning script machine (line ∷ hooks) rest all stand =
-    ((λ none. inr tt), behind_hook script (after_line script machine line) (entry_of script machine line) [] hooks rest all.0 all.1 stand)
+    ((λ none. inr tt), behind_hook script (after_line script machine line) (acted_of script machine line) [] hooks rest all.0 all.1 stand)
 
 -- hooks' lines stand where the first of them is evaluated
 late_stand : (script : Script) (hooks : List PhaseLine) → AllHooks hooks → FirstPasses is_evaluated hooks → Stand script (hooks ++ [])
 late_stand script [] all evaluated machine before = tt
 late_stand script (line ∷ hooks) all evaluated machine before = (
   (λ none. absurd (placed_task script machine line.line line.task evaluated none)),
-  behind_hook script (after_line script machine line) (entry_of script machine line) before hooks [] all.0 all.1 (λ m b. tt),
+  behind_hook script (after_line script machine line) (acted_of script machine line) before hooks [] all.0 all.1 (λ m b. tt),
 )
 
 -- commands' lines stand wherever they are
@@ -139,7 +140,7 @@ commands_stand : (script : Script) (commands rest : List PhaseLine) → AllComma
 commands_stand script [] rest all stand machine before = stand machine before
 commands_stand script (line ∷ commands) rest all stand machine before = (
   (λ none. absurd (command_placed script machine line all.0 none)),
-  commands_stand script commands rest all.1 stand (after_line script machine line) (entry_of script machine line ∷ before),
+  commands_stand script commands rest all.1 stand (after_line script machine line) (acted_of script machine line ∷ before),
 )
 
 -- the parts of a phase are in place: the early hooks, the commands, and the late hooks
@@ -156,7 +157,7 @@ parts_in_place script machine commands early late lines parts =
 
 -- the printed phases are in place, from each machine on
 phases_in_place : (script : Script) (machine : Machine) (phases : List (List PhaseLine)) → AllByRecursion (λ (lines : List PhaseLine). NumbersRise lines × CommandsFirst lines) phases
-    → AllByRecursion (λ (entries : List Entry). Rises (filter_map key_of entries) × UnplacedStand [] entries) (phases_entries script machine (map printed phases))
+    → AllByRecursion (λ (entries : List Acted). Rises (filter_map key_of entries) × UnplacedStand [] entries) (phases_entries script machine (map printed phases))
 phases_in_place script machine [] order = tt
 phases_in_place script machine (lines ∷ phases) order = (
   parts_in_place script machine (before_first is_hook lines) (before_first is_evaluated (from_first is_hook lines)) (from_first is_evaluated (from_first is_hook lines)) lines
@@ -228,6 +229,15 @@ printed_all P lines all =
 pub printed_numbered : (above : ℕ) (order : List (List PhaseLine)) → NumbersBelow above order → NumbersBelow above (map printed order)
 printed_numbered above [] below = tt
 printed_numbered above (lines ∷ order) below = (printed_all (λ (line : PhaseLine). line.line < above) lines below.0, printed_numbered above order below.1)
+
+-- so do the lines of phases
+printed_lines_worded : (order : List (List PhaseLine)) → AreWordedLines order → AreWordedLines (map printed order)
+printed_lines_worded [] all = tt
+printed_lines_worded (lines ∷ order) all = (printed_all (λ (line : PhaseLine). IsWordedTask line.task) lines all.0, printed_lines_worded order all.1)
+
+-- printed phases have the same words, in other places
+pub printed_worded : (script : Script) (order : List (List PhaseLine)) → HasWords script order → HasWords script (map printed order)
+printed_worded script order words = (words.0, printed_lines_worded order words.1)
 
 -- printed phases have as many lines
 pub printed_length : (lines : List PhaseLine) → length (printed lines) ≡ length lines

@@ -11,12 +11,14 @@ use Rattle.ipe_script.specs.Script.{Script}
 use Rattle.ipe_script.specs.Grammar.{Progress, at_first, next, is_ended, is_line_feed, requests_from, requests_of}
 use Rattle.ipe_history.specs.Order.{NumbersRise, CommandsFirst, IsFileOrder}
 use Rattle.ipe_history.specs.Spelled.{NumbersBelow}
+use Rattle.ipe_history.specs.Worded.{HasWords}
 use Rattle.ipe_history.proofs.Phases.{NumbersWithin, ArePhases, count_lines}
-use Rattle.ipe_history.proofs.Steps.{IsSound, Found, next_sound}
+use Rattle.ipe_history.proofs.Given.{Found}
+use Rattle.ipe_history.proofs.Steps.{IsSound, next_sound}
 
--- phases in the order of the file, with at most this many lines, whose numbers are at most this too
+-- phases in the order of the file, with at most this many lines, whose numbers are at most this too, and whose words meet their rules
 abbrev IsReadOf : ℕ → Script → Type 0
-IsReadOf most script = IsFileOrder script × (count_lines script.phases ≤ most) × NumbersBelow (most + 1) script.phases
+IsReadOf most script = IsFileOrder script × (count_lines script.phases ≤ most) × NumbersBelow (most + 1) script.phases × HasWords script script.phases
 
 -- phases without the bound on their numbers
 phases-order : (most : ℕ) (phases : List (List PhaseLine)) → ArePhases most phases → AllByRecursion (λ (lines : List PhaseLine). NumbersRise lines × CommandsFirst lines) phases
@@ -51,14 +53,14 @@ read_from : (most : ℕ) (progress : Progress) (number : ℕ) (pieces : List (Li
 read_from most progress number [] sound few = tt
 read_from most progress number (rest ∷ []) sound few =
     read_end most (is_ended progress.stage && (length rest == 0)) progress.script (number + 1)
-    (phases-order number progress.script.phases sound.order, omega (arith, sound.few), phases-below number (most + 1) progress.script.phases (omega arith) sound.order)
+    (phases-order number progress.script.phases sound.order, omega (arith, sound.few), phases-below number (most + 1) progress.script.phases (omega arith) sound.order, sound.worded)
 read_from most progress number (line ∷ piece ∷ pieces) sound few =
     read_on most (number + 1) (next progress (number + 1) line) (λ more. requests_from more (number + 1) (piece ∷ pieces)) (number + 1) (next_sound number progress sound line)
     (λ more h. read_from most more (number + 1) (piece ∷ pieces) h (omega arith))
 
 -- nothing is read yet
 first_sound : IsSound 0 at_first
-first_sound = record { order = tt; few = omega arith; unhooked = tt }
+first_sound = record { order = tt; few = omega arith; unhooked = tt; worded = (tt, tt) }
 
 -- what is read of a file
 read_all : (input : List ℕ) → IfOk (requests_of input) (IsReadOf (length input + 1))
@@ -96,3 +98,7 @@ NumbersBelow-more above more (lines ∷ order) le h = (lines-more above more lin
 -- the numbers of what is read are at most the bytes of the file, and one
 pub requests_numbered : (input : List ℕ) (script : Script) → requests_of input ≡ Ok script → NumbersBelow (length input + 2) script.phases
 requests_numbered input script read = NumbersBelow-more (length input + 1 + 1) (length input + 2) script.phases (omega arith) (requests_read input script read).2
+
+-- the words of what is read meet their rules
+pub requests_worded : (input : List ℕ) (script : Script) → requests_of input ≡ Ok script → HasWords script script.phases
+requests_worded input script read = (requests_read input script read).3

@@ -5,7 +5,7 @@ use Rattle.std.proofs.lemmas.Option.{none-some}
 use Rattle.ipe_machine.specs.Machine.{Machine}
 use Rattle.ipe_script.specs.declared.script.PhaseLine.{PhaseLine}
 use Rattle.ipe_script.specs.declared.script.Task.{Task}
-use Rattle.ipe_script.specs.declared.script.Task.TheVariants.{Load, Activate, Hook}
+use Rattle.ipe_script.specs.declared.script.Task.TheVariants.{Write, Read, Hook}
 use Rattle.ipe_script.specs.Script.{Script, actor_of, actor_of_task}
 use Rattle.ipe_history.specs.Order.{Key, IsBefore, Rises, key_of, entries_of, after_line, NumbersRise, AllHooks}
 use Rattle.ipe_history.proofs.Phases.{AllCommands}
@@ -39,8 +39,8 @@ moved rank within keys same h = subst (λ (e : ℕ). Rises (at e rank within ∷
 -- a line of a hook makes a hook's step
 task_hooks : (script : Script) (machine : Machine) (number : ℕ) (task : Task) → actor_of_task task ≡ 1
     → IsHookStep machine (after_line script machine (line_of number task)) (line_key script machine (line_of number task))
-task_hooks script machine number (Load text) hook = absurd (omega (arith, hook))
-task_hooks script machine number (Activate name) hook = absurd (omega (arith, hook))
+task_hooks script machine number (Write may node content) hook = absurd (omega (arith, hook))
+task_hooks script machine number (Read node) hook = absurd (omega (arith, hook))
 task_hooks script machine number (Hook request subject file) hook = line_step script machine number (Hook request subject file)
 
 -- the same of a line
@@ -100,8 +100,8 @@ begins-first (line ∷ lines) = inl (omega arith)
 -- a line of a command makes a command's step
 task_commands : (script : Script) (machine : Machine) (number : ℕ) (task : Task) → actor_of_task task ≡ 0
     → IsCommandStep number machine (after_line script machine (line_of number task)) (line_key script machine (line_of number task))
-task_commands script machine number (Load text) command = line_step script machine number (Load text)
-task_commands script machine number (Activate name) command = line_step script machine number (Activate name)
+task_commands script machine number (Write may node content) command = line_step script machine number (Write may node content)
+task_commands script machine number (Read node) command = line_step script machine number (Read node)
 task_commands script machine number (Hook request subject file) command = absurd (omega (arith, command))
 
 -- the same of a line

@@ -2,3 +2,4 @@ pub mod Order
 pub mod Printed
 pub mod Transcript
 pub mod Spelled
+pub mod Worded

@@ -4,13 +4,13 @@ use Rattle.std.specs.List.{before_first, position_or_len}
 use Rattle.ipe_policy.specs.Request.{evaluated_op}
 use Rattle.ipe_script.specs.declared.script.PhaseLine.{PhaseLine}
 use Rattle.ipe_script.specs.declared.script.Task.{Task}
-use Rattle.ipe_script.specs.declared.script.Task.TheVariants.{Load, Activate, Hook}
+use Rattle.ipe_script.specs.declared.script.Task.TheVariants.{Write, Read, Hook}
 use Rattle.ipe_script.specs.Script.{Script}
 
 -- a worker's task is a hook; the administrator's aren't
 abbrev pub is_hook_task : Task → Bool
-is_hook_task (Load text) = false
-is_hook_task (Activate name) = false
+is_hook_task (Write may node content) = false
+is_hook_task (Read node) = false
 is_hook_task (Hook request subject file) = true
 
 -- a hook's line
@@ -19,8 +19,8 @@ is_hook line = is_hook_task line.task
 
 -- a hook that is evaluated, since its request has an operation; a command isn't
 abbrev pub is_evaluated_task : Task → Bool
-is_evaluated_task (Load text) = false
-is_evaluated_task (Activate name) = false
+is_evaluated_task (Write may node content) = false
+is_evaluated_task (Read node) = false
 is_evaluated_task (Hook request subject file) = is_some (evaluated_op request)
 
 -- the line of a hook that is evaluated

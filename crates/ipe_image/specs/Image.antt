@@ -29,6 +29,7 @@ kind_number (FsveritySignature wanted) = 2
 kind_number (DmverityRoothash digest) = 3
 kind_number (FsverityDigest digest) = 4
 
+-- the number of a truth value
 abbrev pub truth_number : Bool → ℕ
 truth_number true = 1
 truth_number false = 0

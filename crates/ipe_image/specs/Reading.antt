@@ -75,6 +75,7 @@ decoded words =
       rules = rules;
     }) (rules_read (slice_index words 10) (drop 25 words))
 
+-- a number that a byte holds
 abbrev pub is_byte : ℕ → Bool
 is_byte byte = nat_lt byte 256
 

@@ -1,3 +1,5 @@
+pub mod HookLemmas
 pub mod LineLemmas
 pub mod PartLemmas
+pub mod RecordLemmas
 pub mod RoomLemmas

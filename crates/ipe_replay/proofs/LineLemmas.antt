@@ -9,10 +9,10 @@ use Rattle.ipe_script.specs.Script.{Script}
 use Rattle.ipe_transcript.specs.Lines.{entry_text, line_text}
 use Rattle.ipe_history.specs.Order.{line_reply, after_line, after_lines}
 use Rattle.ipe_history.specs.Printed.{printed}
-use Rattle.ipe_history.specs.Transcript.{lines_text, phases_text}
+use Rattle.ipe_history.specs.Transcript.{entry_of, lines_text, phases_text}
 
 pub lines_text-drop : (script : Script) (m : Machine) (lines : List PhaseLine) (i : ℕ) (x : PhaseLine) → i < length lines → x ≡ get_or lines i x
-    → lines_text script m (drop i lines) ≡ entry_text x.line (line_reply script m x) ++ lines_text script (after_line script m x) (drop (i + 1) lines)
+    → lines_text script m (drop i lines) ≡ entry_text (entry_of x (line_reply script m x)) ++ lines_text script (after_line script m x) (drop (i + 1) lines)
 lines_text-drop script m lines i x lt is =
     at_drop_more (lines_text script m) lines i x lt ∙ ap (λ (y : PhaseLine). lines_text script m (y ∷ drop (i + 1) lines)) (sym is)
 
@@ -34,7 +34,7 @@ pub lines_text-append : (script : Script) (m : Machine) (one two : List PhaseLin
     → lines_text script m (one ++ two) ≡ lines_text script m one ++ lines_text script (after_lines script m one) two
 lines_text-append script m [] two = refl
 lines_text-append script m (line ∷ one) two =
-    let entry : List ℕ = entry_text line.line (line_reply script m line) in
+    let entry : List ℕ = entry_text (entry_of line (line_reply script m line)) in
     let then = after_line script m line in
     ap (λ (text : List ℕ). entry ++ text) (lines_text-append script then one two)
     ∙ sym (append_assoc entry (lines_text script then one) (lines_text script (after_lines script then one) two))

@@ -1,24 +1,22 @@
 -- A line takes at most one serial and one claim, and leaves the pass free.
-use Rattle.std.proofs.Common.{◌≡◌, ℕ, suc, ◌+◌, ◌≤◌, ◌==◌, cond, Bool, true, false, IsTrue, List, [], ◌∷◌, Option, Some, None, Result, Ok, Err, slice_get, slice_set, length, refl, arith}
+use Rattle.std.proofs.Common.{◌≡◌, ℕ, suc, ◌+◌, ◌≤◌, ◌==◌, cond, Bool, true, false, IsTrue, List, [], ◌∷◌, Option, Some, None, Result, Ok, Err, slice_get, slice_set, is_some, length, refl, arith}
 use Rattle.ipe_policy.specs.declared.op.Op.{Op}
-use Rattle.ipe_policy.specs.declared.evaluation.Context.{Context}
 use Rattle.ipe_policy.specs.Request.{evaluated_op}
 use Rattle.ipe_machine.specs.declared.command.Act.{Act}
 use Rattle.ipe_machine.specs.declared.command.Act.TheVariants.{Load, Update, Activate, Delete, Enforce, SuccessAudit}
 use Rattle.ipe_machine.specs.declared.command.Command.{Command}
-use Rattle.ipe_machine.specs.declared.command.Value.TheVariants as value
 use Rattle.ipe_machine.specs.declared.answer.Done.{Done}
 use Rattle.ipe_machine.specs.declared.answer.Done.TheVariants as done
 use Rattle.ipe_machine.specs.declared.answer.Refusal.{Refusal}
-use Rattle.ipe_machine.specs.declared.event.Reply.TheVariants as reply
+use Rattle.ipe_machine.specs.declared.event.Event.TheVariants as event
 use Rattle.ipe_machine.specs.Policies.{Policies, Loaded, is_active, active_entry}
 use Rattle.ipe_machine.specs.Answer.{Verdicts, changed, after_answer, after, answer}
-use Rattle.ipe_machine.specs.Machine.{Machine, ruling_for, ruling_at, claimed, after_claim, with_policies, is_free}
+use Rattle.ipe_machine.specs.Machine.{Machine, after_event, claimed, with_policies, is_free}
 use Rattle.ipe_script.specs.declared.script.PhaseLine.{PhaseLine}
 use Rattle.ipe_script.specs.declared.script.Task.{Task}
 use Rattle.ipe_script.specs.declared.script.Task.TheVariants as task
-use Rattle.ipe_script.specs.Script.{Script, bytes_of}
-use Rattle.ipe_history.specs.Order.{is_held, after_line, after_lines, context_of, verdicts_of}
+use Rattle.ipe_script.specs.Script.{Script}
+use Rattle.ipe_history.specs.Order.{after_hook, after_line, after_lines, after_task, after_write, asked_by, verdicts_of}
 use Rattle.ipe_replay.specs.Room.{HasRoom}
 
 cond-next : (b : Bool) (p q : Policies) (n : ℕ) → p.next ≤ n → q.next ≤ n → (cond b p q).next ≤ n
@@ -61,40 +59,6 @@ free-returned : (held : List (Option ℕ)) (serial : ℕ) → IsTrue (is_free (s
 free-returned [] serial free = free
 free-returned (h ∷ held) serial free = refl
 
--- the machine after a claim, returned where it holds something
-abbrev returned : Machine → Option Op → Context → Machine
-returned m op context = cond (is_held (reply.Claimed (ruling_for m op context))) (record (after_claim m 0 op) { held = slice_set (after_claim m 0 op).held 0 None }) (after_claim m 0 op)
-
-room-entry : (m : Machine) (op : Op) (context : Context) (entry : Option Loaded) (n : ℕ) → HasRoom m (suc n)
-    → HasRoom (cond (is_held (reply.Claimed (ruling_at m entry op context))) (record (claimed m 0 entry) { held = slice_set (claimed m 0 entry).held 0 None }) (claimed m 0 entry)) n
-room-entry m op context None n room = record {
-  serials = omega (arith, room.serials);
-  claims = omega (arith, room.claims);
-  free = room.free;
-}
-room-entry m op context (Some entry) n room = record {
-  serials = omega (arith, room.serials);
-  claims = omega (arith, room.claims);
-  free = free-returned m.held entry.serial room.free;
-}
-
-room-claim : (m : Machine) (op : Option Op) (context : Context) (n : ℕ) → HasRoom m (suc n) → HasRoom (returned m op context) n
-room-claim m None context n room = record {
-  serials = omega (arith, room.serials);
-  claims = omega (arith, room.claims);
-  free = room.free;
-}
-room-claim m (Some op) context n room = room-entry m op context (active_entry m.policies) n room
-
--- after a line there is room for one less
-pub room-after_line : (script : Script) (m : Machine) (line : PhaseLine) (n : ℕ) → HasRoom m (suc n) → HasRoom (after_line script m line) n
-room-after_line script m line n room = room-task line.task
-  where
-    room-task : (t : Task) → HasRoom (after_line script m (record line { task = t })) n
-    room-task (task.Load text) = room-command (verdicts_of script) m (record { may = true; act = Load (bytes_of script text) }) n room
-    room-task (task.Activate name) = room-command (verdicts_of script) m (record { may = true; act = Activate name value.True }) n room
-    room-task (task.Hook request subject file) = room-claim m (evaluated_op request) (context_of file) n room
-
 -- room for more lines is room for fewer
 pub room-fewer : (m : Machine) (k n : ℕ) → k ≤ n → HasRoom m n → HasRoom m k
 room-fewer m k n le room = record {
@@ -102,6 +66,39 @@ room-fewer m k n le room = record {
   claims = omega (arith, room.claims);
   free = room.free;
 }
+
+-- a claim on a policy takes a place, and the pass is free once it is returned
+room-entry : (v : Verdicts) (m : Machine) (entry : Option Loaded) (n : ℕ) → HasRoom m (suc n)
+    → HasRoom (cond (is_some entry) (after_event v (claimed m 0 entry) (event.Return 0)) (claimed m 0 entry)) n
+room-entry v m None n room = record {
+  serials = omega (arith, room.serials);
+  claims = omega (arith, room.claims);
+  free = room.free;
+}
+room-entry v m (Some entry) n room = record {
+  serials = omega (arith, room.serials);
+  claims = omega (arith, room.claims);
+  free = free-returned m.held entry.serial room.free;
+}
+
+-- a hook takes at most one place
+room-hook : (v : Verdicts) (m : Machine) (op : Option Op) (n : ℕ) → HasRoom m (suc n) → HasRoom (after_hook v m op) n
+room-hook v m None n room = room-fewer m n (suc n) (omega arith) room
+room-hook v m (Some op) n room = room-entry v m (active_entry m.policies) n room
+
+-- a write takes at most one serial
+room-write : (v : Verdicts) (m : Machine) (asked : Result Command Refusal) (n : ℕ) → HasRoom m (suc n) → HasRoom (after_write v m asked) n
+room-write v m (Ok command) n room = room-command v m command n room
+room-write v m (Err refusal) n room = room-fewer m n (suc n) (omega arith) room
+
+-- after a line there is room for one less
+pub room-after_line : (script : Script) (m : Machine) (line : PhaseLine) (n : ℕ) → HasRoom m (suc n) → HasRoom (after_line script m line) n
+room-after_line script m line n room = room-task line.task
+  where
+    room-task : (t : Task) → HasRoom (after_task script m t) n
+    room-task (task.Write may node content) = room-write (verdicts_of script) m (asked_by script may node content) n room
+    room-task (task.Read node) = room-fewer m n (suc n) (omega arith) room
+    room-task (task.Hook request subject file) = room-hook (verdicts_of script) m (evaluated_op request) n room
 
 -- after lines there is room for the others
 pub room-after_lines : (script : Script) (m : Machine) (lines : List PhaseLine) (n : ℕ) → HasRoom m (length lines + n) → HasRoom (after_lines script m lines) n

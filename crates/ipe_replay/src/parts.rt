@@ -9,7 +9,7 @@ fn is_hook(line: &PhaseLine) -> bool
 {
     match &line.task {
         Task::Hook { .. } => true,
-        Task::Load(_) | Task::Activate(_) => false,
+        Task::Write { .. } | Task::Read { .. } => false,
     }
 }
 
@@ -19,7 +19,7 @@ fn is_evaluated(line: &PhaseLine) -> bool
 {
     match &line.task {
         Task::Hook { request, .. } => request.op().is_some(),
-        Task::Load(_) | Task::Activate(_) => false,
+        Task::Write { .. } | Task::Read { .. } => false,
     }
 }
 

@@ -1,141 +1,67 @@
-ghost use Rattle.std.specs.Prelude.{◌≡◌, ◌<◌, ◌^◌, ◌++◌, length, map, IfOk, OnOk, sum_by, string_bytes};
-ghost use Rattle.ipe_script.specs.Script.{bytes_of};
-ghost use Rattle.ipe_history.specs.Order.{is_held, trusted_text, marks_of, context_of, object_of, event_of, line_reply, after_line, after_lines};
+ghost use Rattle.std.specs.Prelude.{◌≡◌, ◌<◌, ◌^◌, ◌++◌, codes, length, map, IfOk, OnOk, sum_by};
+ghost use Rattle.std.specs.Fmt.{decimal};
+ghost use Rattle.ipe_history.specs.Order.{marks_of, line_reply, after_line, after_lines};
 ghost use Rattle.ipe_history.specs.Printed.{printed};
-ghost use Rattle.ipe_history.specs.Transcript.{lines_text, phases_text, transcript};
-ghost use Rattle.ipe_transcript.specs.Lines.{entry_text};
+ghost use Rattle.ipe_history.specs.Transcript.{entry_of, lines_text, phases_text, transcript};
+ghost use Rattle.ipe_transcript.specs.Lines.{entry_text, line_text};
 ghost use Rattle.ipe_replay.specs.Room.{HasRoom};
 
+use crate::commands::{read_entry, write_entry};
+use crate::hooks::hook_entry;
+use crate::marks::signer_of;
 use crate::parts::printed_parts;
-use ipe_core::{
-    Act, Command, Event, Mark, Marks, Purpose, Reply, State, Text, TrustList, Value, Verdict, step,
-};
-use ipe_policy::{Context, DigestBytes, Object, Subject};
+use ipe_core::{State, TrustList};
 use ipe_script::{Phase, PhaseLine, Requests, Task};
-use ipe_transcript::print_reply;
-use sha2::{Digest, Sha256};
+use ipe_transcript::{Entry, print_entry};
 use std::alloc::{AllocError, Global};
 
-// The bytes of the text at a place.
-fn bytes_of(requests: &Requests, place: usize) -> &[u8]
-    ensures { result.now ≡ bytes_of requests.now place }
+// Steps the machine by a line, and makes its entry.
+fn line_entry(
+    alloc: Global,
+    signer: &TrustList,
+    requests: &Requests,
+    state: &mut State,
+    line: &PhaseLine,
+) -> Result<Entry, AllocError>
+    requires signer { signer.now ≡ marks_of requests.now }
+    requires room { HasRoom state.old 1 }
+    ensures entry { IfOk result (λ entry. entry ≡ entry_of line.now (line_reply requests.now state.old line.now)) }
+    ensures after { OnOk result (state.new ≡ after_line requests.now state.old line.now) }
 {
-    match requests.texts.get(place) {
-        Some(text) => text.bytes.as_slice(),
-        None => &[],
-    }
-}
-
-// Each marked text is a trusted policy.
-fn signer_of(alloc: Global, requests: &Requests) -> Result<TrustList, AllocError>
-    ensures { IfOk result (λ signer. signer ≡ marks_of requests.now) }
-{
-    let mut marks = Vec::new(alloc);
-    for place in &requests.marks {
-        marks.push(trusted(bytes_of(requests, *place)))?;
-    }
-    Ok(TrustList::new(Marks::from_vec(marks)))
-}
-
-fn trusted(text: &[u8]) -> Mark
-    ensures { result ≡ trusted_text text.now }
-{
-    let digest = Sha256::digest(text);
-    Mark {
-        purpose: Purpose::Policy,
-        verdict: Verdict::Trusted,
-        digest: DigestBytes::read(&digest).unwrap(),
-    }
-}
-
-fn context_of(file: Option<usize>) -> Context
-    ensures { result ≡ context_of file }
-{
-    Context {
-        boot: file.is_some(),
-        dm: None,
-        fs: None,
-    }
-}
-
-fn object_of(requests: &Requests, file: Option<usize>) -> Result<Object, AllocError>
-    ensures { IfOk result (λ object. object ≡ object_of requests.now file) }
-{
-    let Some(place) = file else {
-        return Ok(Object::NoFile);
-    };
-    match requests.files.get(place) {
-        Some(file) => Ok(Object::File {
-            path: file.path.clone()?,
-            dev: file.dev.clone()?,
-            ino: file.ino,
-        }),
-        None => Ok(Object::NoFile),
-    }
-}
-
-// The event of a line. Worker 1 has pass 0.
-fn event_of(alloc: Global, requests: &Requests, task: &Task) -> Result<Event, AllocError>
-    ensures { IfOk result (λ event. event ≡ event_of requests.now task.now) }
-{
-    match task {
-        Task::Load(place) => {
-            let bytes = bytes_of(requests, *place).to_vec(alloc)?;
-            Ok(Event::Command(Command {
-                may: true,
-                act: Act::Load(Text::from_vec(bytes)),
-            }))
+    let number = line.line;
+    match &line.task {
+        Task::Write { may, node, content } => {
+            let node = node.as_slice();
+            write_entry(alloc, signer, requests, state, number, *may, node, content)
         }
-        Task::Activate(name) => Ok(Event::Command(Command {
-            may: true,
-            act: Act::Activate(name.clone()?, Value::True),
-        })),
+        Task::Read { node } => read_entry(alloc, state, number, node.as_slice()),
         Task::Hook {
             request,
             subject,
             file,
-        } => Ok(Event::Claim {
-            pass: 0,
-            request: *request,
-            subject: Subject {
-                pid: subject.pid,
-                comm: subject.comm.clone()?,
-            },
-            object: object_of(requests, *file)?,
-            context: context_of(*file),
-        }),
+        } => hook_entry(
+            alloc, signer, requests, state, number, *request, subject, *file,
+        ),
     }
 }
 
-fn is_held(reply: &Reply) -> bool
-    ensures { result ≡ is_held reply.now }
-{
-    match reply {
-        Reply::Claimed(ruling) => ruling.serial.is_some(),
-        Reply::Command(_) | Reply::Returned => false,
-    }
-}
-
-// Steps the machine by a line, and prints its entry. A claim on a policy is returned at once.
+// Steps the machine by a line, and prints its entry.
 fn replay_line(
     alloc: Global,
     signer: &TrustList,
     requests: &Requests,
     state: &mut State,
     line: &PhaseLine,
-    out: &mut String,
+    out: &mut Vec<u8>,
 ) -> Result<(), AllocError>
     requires signer { signer.now ≡ marks_of requests.now }
     requires room { HasRoom state.old 1 }
-    ensures out { OnOk result (string_bytes out.new ≡ string_bytes out.old ++ entry_text line.now.line (line_reply requests.now state.old line.now)) }
+    ensures out { OnOk result
+        (out.new.items ≡ out.old.items ++ entry_text (entry_of line.now (line_reply requests.now state.old line.now))) }
     ensures after { OnOk result (state.new ≡ after_line requests.now state.old line.now) }
 {
-    let event = event_of(alloc, requests, &line.task)?;
-    let reply = step(alloc, signer, state, &event)?;
-    if is_held(&reply) {
-        step(alloc, signer, state, &Event::Return { pass: 0 })?;
-    }
-    print_reply(out, line.line, &reply)
+    let entry = line_entry(alloc, signer, requests, state, line)?;
+    print_entry(alloc, out, &entry)
 }
 
 fn replay_lines(
@@ -144,12 +70,11 @@ fn replay_lines(
     requests: &Requests,
     state: &mut State,
     lines: &[PhaseLine],
-    out: &mut String,
+    out: &mut Vec<u8>,
 ) -> Result<(), AllocError>
     requires signer { signer.now ≡ marks_of requests.now }
     requires room { HasRoom state.old (length lines.now) }
-    ensures out { OnOk result
-        (string_bytes out.new ≡ string_bytes out.old ++ lines_text requests.now state.old lines.now) }
+    ensures out { OnOk result (out.new.items ≡ out.old.items ++ lines_text requests.now state.old lines.now) }
     ensures after { OnOk result (state.new ≡ after_lines requests.now state.old lines.now) }
 {
     for line in lines {
@@ -164,12 +89,12 @@ fn replay_phase(
     requests: &Requests,
     state: &mut State,
     phase: &Phase,
-    out: &mut String,
+    out: &mut Vec<u8>,
 ) -> Result<(), AllocError>
     requires signer { signer.now ≡ marks_of requests.now }
     requires room { HasRoom state.old (length phase.now) }
     ensures out { OnOk result
-        (string_bytes out.new ≡ string_bytes out.old ++ lines_text requests.now state.old (printed phase.now)) }
+        (out.new.items ≡ out.old.items ++ lines_text requests.now state.old (printed phase.now)) }
     ensures after { OnOk result (state.new ≡ after_lines requests.now state.old (printed phase.now)) }
 {
     let (early, commands, late) = printed_parts(phase.lines.as_slice());
@@ -178,21 +103,28 @@ fn replay_phase(
     replay_lines(alloc, signer, requests, state, late, out)
 }
 
+fn print_heading(alloc: Global, out: &mut Vec<u8>, number: usize) -> Result<(), AllocError>
+    ensures { OnOk result (out.new.items ≡ out.old.items ++ line_text (codes "phase " ++ decimal number)) }
+{
+    let heading = format!(in alloc; "phase {number}\n")?;
+    out.extend_from_slice(heading.as_bytes())
+}
+
 fn replay_phases(
     alloc: Global,
     signer: &TrustList,
     requests: &Requests,
     state: &mut State,
-    out: &mut String,
+    out: &mut Vec<u8>,
 ) -> Result<(), AllocError>
     requires signer { signer.now ≡ marks_of requests.now }
     requires room { HasRoom state.old (sum_by length requests.now.phases) }
-    ensures { OnOk result (string_bytes out.new ≡ string_bytes out.old
+    ensures { OnOk result (out.new.items ≡ out.old.items
         ++ phases_text requests.now 1 state.old (map printed requests.now.phases)) }
 {
     for (place, phase) in requests.phases.iter().enumerate() {
         let number = place + 1;
-        writeln!(out, "phase {number}")?;
+        print_heading(alloc, out, number)?;
         replay_phase(alloc, signer, requests, state, phase, out)?;
     }
     Ok(())
@@ -200,14 +132,14 @@ fn replay_phases(
 
 /// The transcript of the file's lines: in each phase the hooks before the first that is evaluated, the commands, and the
 /// other hooks.
-pub fn replay(alloc: Global, requests: &Requests) -> Result<String, AllocError>
+pub fn replay(alloc: Global, requests: &Requests) -> Result<Vec<u8>, AllocError>
     requires { sum_by length requests.now.phases < 2 ^ 32 }
-    ensures { IfOk result (λ text. string_bytes text ≡ transcript requests.now (map printed requests.now.phases)) }
+    ensures { IfOk result (λ text. text.items ≡ transcript requests.now (map printed requests.now.phases)) }
 {
     let signer = signer_of(alloc, requests)?;
     let mut state = State::new(alloc, 1)?;
-    let mut out = String::from_str(alloc, "ipe-transcript 1\n")?;
+    let mut out = b"ipe-transcript 1\n".to_vec(alloc)?;
     replay_phases(alloc, &signer, requests, &mut state, &mut out)?;
-    out.push_str("end\n")?;
+    out.extend_from_slice(b"end\n")?;
     Ok(out)
 }

@@ -2,3 +2,4 @@ pub mod Numbers
 mod Words
 mod Lines
 mod Steps
+mod Longest

@@ -1,14 +1,24 @@
 -- The forms of a request file's lines, each told by its words.
-use Rattle.std.specs.Prelude.{ℕ, ◌-◌, ◌==◌, ◌&&◌, ◌||◌, Bool, true, false, not, nat_le, if◌then◌else◌, codes, List, [], ◌∷◌, length, map, take, drop, Option, Some, None, slice_index}
+use Rattle.std.specs.Prelude.{ℕ, ◌%◌, ◌==◌, ◌&&◌, ◌||◌, Bool, true, false, not, nat_le, if◌then◌else◌, codes, List, [], ◌∷◌, length, map, Option, Some, None, slice_index}
 use Rattle.std.specs.Borrow.{Bor}
 use Rattle.std.specs.List.{slice_split}
 use Rattle.std.specs.Option.{option_map, option_and_then, option_or}
-use Rattle.ipe_policy.specs.Words.{is_text, is_word, is_digit, is_dev_name, is_path, is_name, is_comm}
+use Rattle.std.specs.Result.{result_ok}
+use Rattle.hex.specs.Hex.{decode_of}
+use Rattle.ipe_policy.specs.Words.{is_text, is_word, is_digit, is_visible, is_dev_name, is_path, is_comm}
 use Rattle.ipe_policy.specs.Version.{digits_onto}
 use Rattle.ipe_policy.specs.declared.request.Kind.{Kind}
 use Rattle.ipe_policy.specs.declared.request.Kind.TheVariants.{Firmware, Module, KexecImage, KexecInitramfs, Policy, X509}
 use Rattle.ipe_policy.specs.declared.request.Request.{Request}
 use Rattle.ipe_policy.specs.declared.request.Request.TheVariants as request
+use Rattle.ipe_script.specs.declared.script.MarkPurpose.{MarkPurpose}
+use Rattle.ipe_script.specs.declared.script.MarkPurpose.TheVariants as purpose
+use Rattle.ipe_script.specs.declared.script.MarkVerdict.{MarkVerdict}
+use Rattle.ipe_script.specs.declared.script.MarkVerdict.TheVariants as verdict
+use Rattle.ipe_script.specs.declared.form.Marked.{Marked}
+use Rattle.ipe_script.specs.declared.form.Marked.TheVariants as marked
+use Rattle.ipe_script.specs.declared.form.Written.{Written}
+use Rattle.ipe_script.specs.declared.form.Written.TheVariants as written
 use Rattle.ipe_script.specs.declared.form.Form.{Form}
 use Rattle.ipe_script.specs.declared.form.Form.TheVariants as form
 
@@ -57,30 +67,72 @@ file_form key path kind dev ino text =
     when (is_text (codes "file") key && is_text (codes "boot") kind && is_path path && is_dev_name dev && is_dev_name text)
     (option_map (λ number. form.File path dev number text) (number_of 18446744073709551615 ino))
 
--- `mark policy trusted text ID`
+-- the purpose of a mark, by its word
+unfoldable pub purpose_of : List ℕ → Option MarkPurpose
+purpose_of word =
+    if is_text (codes "policy") word then Some purpose.Policy
+    else if is_text (codes "root") word then Some purpose.Root
+    else if is_text (codes "file") word then Some purpose.File
+    else None
+
+-- the verdict of a mark, by its word
+unfoldable pub verdict_of : List ℕ → Option MarkVerdict
+verdict_of word =
+    if is_text (codes "trusted") word then Some verdict.Trusted
+    else if is_text (codes "unknown") word then Some verdict.Unknown
+    else if is_text (codes "revoked") word then Some verdict.Revoked
+    else None
+
+-- 0 to 9 and a to f
+abbrev pub is_lower_hex : ℕ → Bool
+is_lower_hex byte = is_digit byte || (nat_le 97 byte && nat_le byte 102)
+
+-- from low to high digits, an even number of them
+abbrev pub is_hex : ℕ → ℕ → List ℕ → Bool
+is_hex low high word = is_word low high is_lower_hex word && (length word % 2 == 0)
+
+-- the bytes that lower case digits spell, of which there are from low to high, an even number
+unfoldable pub hex_of : ℕ → ℕ → List ℕ → Option (List ℕ)
+hex_of low high word = when (is_hex low high word) (result_ok (decode_of word))
+
+-- the digest that is marked: of a text, or 64 digits
+unfoldable pub marked_of : List ℕ → List ℕ → Option Marked
+marked_of kind word =
+    if is_text (codes "text") kind then when (is_dev_name word) (Some (marked.Text word))
+    else if is_text (codes "hex") kind then option_map marked.Hex (hex_of 64 64 word)
+    else None
+
+-- `mark PURPOSE VERDICT text ID` or `mark PURPOSE VERDICT hex H`
 unfoldable pub mark_form : List ℕ → List ℕ → List ℕ → List ℕ → List ℕ → Option Form
-mark_form key purpose verdict kind text =
-    when (is_text (codes "mark") key && is_text (codes "policy") purpose && is_text (codes "trusted") verdict && is_text (codes "text") kind && is_dev_name text)
-    (Some (form.Mark text))
+mark_form key purpose verdict kind word =
+    when (is_text (codes "mark") key)
+    (option_and_then (λ what. option_and_then (λ says. option_map (form.Mark what says) (marked_of kind word)) (verdict_of verdict)) (purpose_of purpose))
 
--- the name in a node `policies/NAME/active`
-unfoldable pub node_name : List ℕ → Option (List ℕ)
-node_name node =
-    let rest = drop 9 node in
-    let name = take (length rest - 7) rest in
-    when (is_text (codes "policies/") (take 9 node) && is_text (codes "/active") (drop (length rest - 7) rest) && is_name name) (Some name)
+-- a node's path: 1 to 320 visible bytes; whether there is such a node is told when the line runs
+abbrev pub is_node : List ℕ → Bool
+is_node word = is_word 1 320 is_visible word
 
--- `admin write new_policy text ID`
-unfoldable pub load_form : List ℕ → List ℕ → List ℕ → List ℕ → List ℕ → Option Form
-load_form who verb node kind word =
-    when (is_text (codes "admin") who && is_text (codes "write") verb && is_text (codes "new_policy") node && is_text (codes "text") kind && is_dev_name word)
-    (Some (form.Load word))
+-- whether an administrator's line is of one who has the right
+unfoldable pub right_of : List ℕ → Option Bool
+right_of who = if is_text (codes "admin") who then Some true else if is_text (codes "guest") who then Some false else None
 
--- `admin write policies/NAME/active echo 1`
-unfoldable pub activate_form : List ℕ → List ℕ → List ℕ → List ℕ → List ℕ → Option Form
-activate_form who verb node kind word =
-    when (is_text (codes "admin") who && is_text (codes "write") verb && is_text (codes "echo") kind && is_text (codes "1") word)
-    (option_map form.Activate (node_name node))
+-- what is written: the text of an id, a word of 1 to 64 visible bytes, or a dash for no bytes, or 2 to 8,192 digits
+unfoldable pub written_of : List ℕ → List ℕ → Option Written
+written_of kind word =
+    if is_text (codes "text") kind then when (is_dev_name word) (Some (written.Text word))
+    else if is_text (codes "echo") kind then when (is_word 1 64 is_visible word) (Some (written.Echo word))
+    else if is_text (codes "hex") kind then (if is_text (codes "-") word then Some (written.Hex []) else option_map written.Hex (hex_of 2 8192 word))
+    else None
+
+-- `admin write NODE CONTENT` or `guest write NODE CONTENT`
+unfoldable pub write_form : List ℕ → List ℕ → List ℕ → List ℕ → List ℕ → Option Form
+write_form who verb node kind word =
+    when (is_text (codes "write") verb && is_node node)
+    (option_and_then (λ may. option_map (form.Write may node) (written_of kind word)) (right_of who))
+
+-- `admin read NODE`
+unfoldable pub read_form : List ℕ → List ℕ → List ℕ → Option Form
+read_form who verb node = when (is_text (codes "admin") who && is_text (codes "read") verb && is_node node) (Some (form.Read node))
 
 -- the greatest number in a hook line: a process id, or the protection of a mapping
 abbrev pub most_hook_number : ℕ
@@ -146,16 +198,16 @@ kernel_load_form who hook pid comm kind =
 -- the form of a line behind the first two
 abbrev pub form_of_words : List (List ℕ) → Option Form
 form_of_words (key ∷ []) = lone_form key
-form_of_words (key ∷ id ∷ lines ∷ []) = text_form key id lines
+form_of_words (one ∷ two ∷ three ∷ []) = option_or (text_form one two three) (read_form one two three)
 form_of_words (one ∷ two ∷ three ∷ four ∷ five ∷ []) =
     option_or (mark_form one two three four five)
-    (option_or (load_form one two three four five)
-    (option_or (activate_form one two three four five)
-    (option_or (exec_form one two three four five) (kernel_load_form one two three four five))))
+    (option_or (write_form one two three four five)
+    (option_or (exec_form one two three four five) (kernel_load_form one two three four five)))
 form_of_words (one ∷ two ∷ three ∷ four ∷ five ∷ six ∷ []) =
     option_or (file_form one two three four five six) (option_or (mmap_form one two three four five six) (kernel_read_form one two three four five six))
 form_of_words (who ∷ hook ∷ pid ∷ comm ∷ was ∷ prot ∷ path ∷ []) = mprotect_form who hook pid comm was prot path
 form_of_words other = None
 
+-- the same, told by the line
 unfoldable pub form_of : List ℕ → Option Form
 form_of line = form_of_words (words_of line)

@@ -1,15 +1,25 @@
 -- Which lines may stand where in a request file, and what a whole file asks.
-use Rattle.std.specs.Prelude.{ℕ, zero, suc, ◌+◌, ◌-◌, ◌==◌, ◌&&◌, Bool, true, false, not, nat_le, nat_lt, if◌then◌else◌, codes, List, [], ◌∷◌, ◌++◌, length, Option, Some, None, is_none, is_ok, Result, Ok, Err, position}
-use Rattle.std.specs.List.{slice_split}
+use Rattle.std.specs.Prelude.{ℕ, zero, suc, ◌+◌, ◌-◌, ◌==◌, ◌&&◌, Bool, true, false, not, nat_le, nat_lt, nat_eq, ◌||◌, if◌then◌else◌, codes, List, [], ◌∷◌, ◌++◌, length, Option, Some, None, is_none, Result, Ok, Err, position}
+use Rattle.std.specs.List.{ends_with, slice_split}
 use Rattle.std.specs.Option.{option_map, option_map_or, option_and_then}
 use Rattle.ipe_policy.specs.Words.{is_text}
 use Rattle.ipe_policy.specs.declared.request.Request.{Request}
 use Rattle.ipe_policy.specs.declared.request.Request.TheVariants as request
 use Rattle.ipe_policy.specs.declared.request.Subject.{Subject}
-use Rattle.ipe_parse.specs.Reading.{reading}
+use Rattle.ipe_script.specs.declared.script.TextLine.{TextLine}
+use Rattle.ipe_script.specs.declared.script.MarkPurpose.{MarkPurpose}
+use Rattle.ipe_script.specs.declared.script.MarkVerdict.{MarkVerdict}
+use Rattle.ipe_script.specs.declared.script.MarkDigest.{MarkDigest}
+use Rattle.ipe_script.specs.declared.script.MarkDigest.TheVariants as digest
+use Rattle.ipe_script.specs.declared.script.WriteContent.{WriteContent}
+use Rattle.ipe_script.specs.declared.script.WriteContent.TheVariants as content
 use Rattle.ipe_script.specs.declared.script.PhaseLine.{PhaseLine}
 use Rattle.ipe_script.specs.declared.script.Task.{Task}
-use Rattle.ipe_script.specs.declared.script.Task.TheVariants.{Load, Activate, Hook}
+use Rattle.ipe_script.specs.declared.script.Task.TheVariants.{Write, Read, Hook}
+use Rattle.ipe_script.specs.declared.form.Marked.{Marked}
+use Rattle.ipe_script.specs.declared.form.Marked.TheVariants as marked
+use Rattle.ipe_script.specs.declared.form.Written.{Written}
+use Rattle.ipe_script.specs.declared.form.Written.TheVariants as written
 use Rattle.ipe_script.specs.declared.form.Form.{Form}
 use Rattle.ipe_script.specs.declared.form.Form.TheVariants as form
 use Rattle.ipe_script.specs.Script.{Script, no_script, bytes_of, ids_of, paths_of, size_at}
@@ -30,13 +40,13 @@ pub data Stage : Type 0 where
 pub record Progress : Type 0 where
   pub stage : Stage
   pub script : Script
-  pub has_load : Bool
   pub commands : ℕ
   pub hooks : ℕ
   pub work : ℕ
+  pub reads : ℕ
 
 abbrev pub at_first : Progress
-at_first = record { stage = at_start; script = no_script; has_load = false; commands = 0; hooks = 0; work = 0 }
+at_first = record { stage = at_start; script = no_script; commands = 0; hooks = 0; work = 0; reads = 0 }
 
 -- the place of the text of an id, and of the file of a path
 abbrev pub text_place : Script → List ℕ → Option ℕ
@@ -123,9 +133,9 @@ most_hooks = 200000
 abbrev pub most_work : ℕ
 most_work = 1073741824
 
--- the most bytes of a policy that is loaded
-abbrev pub most_policy : ℕ
-most_policy = 4096
+-- the most bytes that reads of policies' texts may give
+abbrev pub most_reads : ℕ
+most_reads = 67108864
 
 -- a text that is declared anew
 abbrev pub declare_text : Progress → List ℕ → ℕ → Option Progress
@@ -142,34 +152,66 @@ declare_file progress path dev ino text =
       script = record progress.script { files = progress.script.files ++ (record { path = path; dev = dev; ino = ino; text = place }) ∷ [] };
     }) (text_place progress.script text))
 
--- a mark on a text that is there
-abbrev pub mark_text : Progress → List ℕ → Option Progress
-mark_text progress text =
-    when (may_mark progress.stage && nat_lt (length progress.script.marks) most_marks)
-    (option_map (λ place. record progress {
-      stage = in_marks;
-      script = record progress.script { marks = progress.script.marks ++ place ∷ [] };
-    }) (text_place progress.script text))
+-- the digest of a mark, of a text that is there or told by its digits
+abbrev pub marked_at : Script → Marked → Option MarkDigest
+marked_at script (marked.Text id) = option_map digest.Text (text_place script id)
+marked_at script (marked.Hex bytes) = Some (digest.Hex bytes)
 
+-- a mark goes behind the others
+abbrev pub add_mark : Progress → MarkPurpose → MarkVerdict → Marked → Option Progress
+add_mark progress purpose verdict marked =
+    when (may_mark progress.stage && nat_lt (length progress.script.marks) most_marks)
+    (option_map (λ digest. record progress {
+      stage = in_marks;
+      script = record progress.script { marks = progress.script.marks ++ (record { purpose = purpose; verdict = verdict; digest = digest }) ∷ [] };
+    }) (marked_at progress.script marked))
+
+-- a phase begins, without lines so far
 abbrev pub begin_phase : Progress → Option Progress
 begin_phase progress =
     when (may_begin_phase progress.stage && nat_lt (length progress.script.phases) most_phases)
     (Some (record progress { stage = in_phase false; script = record progress.script { phases = progress.script.phases ++ [] ∷ [] } }))
 
--- the file's one load: of a text that is there, is no longer than that, and reads as a policy
-abbrev pub add_load : Progress → ℕ → List ℕ → Option Progress
-add_load progress number text =
-    when (may_command progress.stage && not progress.has_load)
-    (option_and_then (λ place.
-    let bytes = bytes_of progress.script place in
-    when (nat_le (length bytes) most_policy && is_ok (reading bytes) && nat_lt progress.commands most_commands && nat_le (progress.work + length bytes) most_work)
-    (Some (with_line (record progress { has_load = true; commands = progress.commands + 1; work = progress.work + length bytes }) false number (Load place))))
-    (text_place progress.script text))
+-- what is written, of a text that is there
+abbrev pub written_at : Script → Written → Option WriteContent
+written_at script (written.Text id) = option_map content.Text (text_place script id)
+written_at script (written.Echo word) = Some (content.Echo word)
+written_at script (written.Hex bytes) = Some (content.Hex bytes)
 
-abbrev pub add_activation : Progress → ℕ → List ℕ → Option Progress
-add_activation progress number name =
-    when (may_command progress.stage && nat_lt progress.commands most_commands)
-    (Some (with_line (record progress { commands = progress.commands + 1 }) false number (Activate name)))
+-- the bytes of a text that is written
+abbrev pub text_work : Script → WriteContent → ℕ
+text_work script (content.Text place) = length (bytes_of script place)
+text_work script (content.Echo word) = 0
+text_work script (content.Hex bytes) = 0
+
+-- a write by one who has the right, or hasn't
+abbrev pub add_write : Progress → ℕ → Bool → List ℕ → Written → Option Progress
+add_write progress number may node written =
+    when (may_command progress.stage)
+    (option_and_then (λ content.
+    let work = text_work progress.script content in
+    when (nat_lt progress.commands most_commands && nat_le (progress.work + work) most_work)
+    (Some (with_line (record progress { commands = progress.commands + 1; work = progress.work + work }) false number (Write may node content))))
+    (written_at progress.script written))
+
+-- a node whose bytes are a policy's text, told by the end of its path
+abbrev pub gives_text : List ℕ → Bool
+gives_text node = ends_with nat_eq node (codes "/pkcs7") || ends_with nat_eq node (codes "/policy")
+
+-- the bytes of the longest of some texts, or 4,096 where that is more
+abbrev pub longest : List TextLine → ℕ
+longest [] = 4096
+longest (text ∷ texts) = if nat_le (length text.bytes) (longest texts) then longest texts else length text.bytes
+
+-- the most bytes that a read may give of a policy's text
+abbrev pub read_size : Script → List ℕ → ℕ
+read_size script node = if gives_text node then longest script.texts else 0
+
+-- a read
+abbrev pub add_read : Progress → ℕ → List ℕ → Option Progress
+add_read progress number node =
+    when (may_command progress.stage && nat_lt progress.commands most_commands && nat_le (progress.reads + read_size progress.script node) most_reads)
+    (Some (with_line (record progress { commands = progress.commands + 1; reads = progress.reads + read_size progress.script node }) false number (Read node)))
 
 -- the size of the file at a place
 abbrev pub size_of : Script → ℕ → ℕ
@@ -211,10 +253,10 @@ end_file progress = when (may_begin_phase progress.stage) (Some (record progress
 abbrev pub with_form : Progress → ℕ → Form → Option Progress
 with_form progress number (form.Text id lines) = declare_text progress id lines
 with_form progress number (form.File path dev ino text) = declare_file progress path dev ino text
-with_form progress number (form.Mark text) = mark_text progress text
+with_form progress number (form.Mark purpose verdict digest) = add_mark progress purpose verdict digest
 with_form progress number form.Phase = begin_phase progress
-with_form progress number (form.Load text) = add_load progress number text
-with_form progress number (form.Activate name) = add_activation progress number name
+with_form progress number (form.Write may node content) = add_write progress number may node content
+with_form progress number (form.Read node) = add_read progress number node
 with_form progress number (form.Hook asked subject path) = add_hook progress number asked subject path
 with_form progress number form.End = end_file progress
 

@@ -2,5 +2,6 @@ pub mod Script
 pub mod Forms
 pub mod Grammar
 pub mod Stages
+pub mod Texts
 pub mod Reader
 pub mod Answers

@@ -1,17 +1,20 @@
 -- The request file that the program replays, as what its lines declare and ask.
-use Rattle.std.specs.Prelude.{ℕ, List, [], map, length, slice_get}
+use Rattle.std.specs.Prelude.{ℕ, List, [], ◌∷◌, ◌++◌, map, length, slice_get}
 use Rattle.std.specs.Option.{option_map_or}
 use Rattle.ipe_script.specs.declared.script.TextLine.{TextLine}
 use Rattle.ipe_script.specs.declared.script.FileLine.{FileLine}
+use Rattle.ipe_script.specs.declared.script.MarkLine.{MarkLine}
 use Rattle.ipe_script.specs.declared.script.PhaseLine.{PhaseLine}
 use Rattle.ipe_script.specs.declared.script.Task.{Task}
-use Rattle.ipe_script.specs.declared.script.Task.TheVariants.{Load, Activate, Hook}
+use Rattle.ipe_script.specs.declared.script.Task.TheVariants.{Write, Read, Hook}
+use Rattle.ipe_script.specs.declared.script.WriteContent.{WriteContent}
+use Rattle.ipe_script.specs.declared.script.WriteContent.TheVariants as content
 
--- the declared texts and files, the texts that are marked as trusted policies, and each phase's lines
+-- the declared texts and files, the marks, and each phase's lines
 pub record Script : Type 0 where
   pub texts : List TextLine
   pub files : List FileLine
-  pub marks : List ℕ
+  pub marks : List MarkLine
   pub phases : List (List PhaseLine)
 
 -- nothing is declared or asked
@@ -37,10 +40,16 @@ size_at files texts place = option_map_or (λ (file : FileLine). length (text_at
 abbrev pub bytes_of : Script → ℕ → List ℕ
 bytes_of script place = text_at script.texts place
 
+-- the bytes that are written to a node
+abbrev pub content_of : Script → WriteContent → List ℕ
+content_of script (content.Text place) = bytes_of script place
+content_of script (content.Echo word) = word ++ 10 ∷ []
+content_of script (content.Hex bytes) = bytes
+
 -- who acts by a task: the administrator is 0, worker K is K
 abbrev pub actor_of_task : Task → ℕ
-actor_of_task (Load text) = 0
-actor_of_task (Activate name) = 0
+actor_of_task (Write may node content) = 0
+actor_of_task (Read node) = 0
 actor_of_task (Hook request subject file) = 1
 
 abbrev pub actor_of : PhaseLine → ℕ

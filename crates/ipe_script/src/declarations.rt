@@ -3,29 +3,34 @@ use std::alloc::{AllocError, Global};
 use std::marker::Model;
 use word_index::WordIndex;
 
-// The declared texts, each found by its id in one look-up.
+const LEAST_READ: usize = 4096;
+
+// The declared texts, each found by its id in one look-up. `longest` counts the bytes of the longest, or is 4,096
+// where that is more: each read of a policy's text asks for it.
 #[derive(Drop)]
 pub struct Texts {
     items: Vec<TextLine>,
     ids: WordIndex,
+    longest: usize,
 }
 
 impl Model for Texts {
-    ghost use Rattle.std.specs.Prelude.{◌≡◌, List};
+    ghost use Rattle.std.specs.Prelude.{List};
     ghost use Rattle.ipe_script.specs.declared.script.TextLine.{TextLine};
-    ghost use Rattle.ipe_script.specs.Script.{ids_of};
+    ghost use Rattle.ipe_script.specs.Texts.{IsTexts};
 
     ghost Value = { List TextLine };
 
     ghost view = { λ s. s.items.items };
 
-    ghost invariant = { λ s. s.ids ≡ ids_of s.items.items };
+    ghost invariant = { IsTexts };
 }
 
 impl Texts {
     ghost use Rattle.std.specs.Prelude.{◌≡◌, ◌<◌, ◌++◌, ◌∷◌, [], None, length, position, OnOk, OnErr};
     ghost use Rattle.ipe_policy.specs.Words.{is_text};
     ghost use Rattle.ipe_script.specs.Script.{ids_of, text_at};
+    ghost use Rattle.ipe_script.specs.Grammar.{longest};
 
     pub fn new(alloc: Global) -> Texts
         ensures { result ≡ [] }
@@ -33,6 +38,7 @@ impl Texts {
         Texts {
             items: Vec::new(alloc),
             ids: WordIndex::new(alloc),
+            longest: LEAST_READ,
         }
     }
 
@@ -58,6 +64,13 @@ impl Texts {
         }
     }
 
+    // The bytes of the longest text, or 4,096 where that is more.
+    pub fn longest(&self) -> usize
+        ensures { result ≡ longest self.now }
+    {
+        self.longest
+    }
+
     // The text goes in whole or not at all, so that each text has its id in the index.
     pub fn push(&mut self, alloc: Global, text: TextLine) -> Result<(), AllocError>
         requires { position (is_text text.id) (ids_of self.old) ≡ None }
@@ -66,7 +79,9 @@ impl Texts {
     {
         self.items.reserve(1)?;
         self.ids.add(alloc, text.id.as_slice())?;
+        let longest = self.longest.max(text.bytes.as_slice().len());
         self.items.push(text)?;
+        self.longest = longest;
         Ok(())
     }
 

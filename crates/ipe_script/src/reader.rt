@@ -1,15 +1,17 @@
-ghost use Rattle.std.specs.Prelude.{◌≡◌, ◌≤◌, ◌++◌, ◌∷◌, [], length, position, is_ok, IfOk, IfNone, IfSome, OnOk};
+ghost use Rattle.std.specs.Prelude.{◌≡◌, ◌≤◌, ◌++◌, ◌∷◌, [], length, position, IfNone, IfSome, OnOk};
 ghost use Rattle.std.specs.List.{slice_split};
-ghost use Rattle.ipe_parse.specs.Reading.{reading};
-ghost use Rattle.ipe_script.specs.Grammar.{requests_of, is_line_feed, reads_file};
+ghost use Rattle.ipe_script.specs.Grammar.{requests_of, is_line_feed};
 ghost use Rattle.ipe_script.specs.Answers.{AsksOrFails, CutsLine};
 
+mod phase_lines;
+
 use crate::declarations::{Files, Texts};
-use crate::form::{Form, read_form};
-use crate::script::{FileLine, Phase, PhaseLine, Requests, Task, TextLine};
+use crate::form::{Form, Marked, read_form};
+use crate::script::{
+    FileLine, MarkDigest, MarkLine, MarkPurpose, MarkVerdict, Phase, PhaseLine, Requests, TextLine,
+};
 use crate::stage::Stage;
-use ipe_parse::{ParseError, parse};
-use ipe_policy::{DevName, Name, PathName, Request, Subject};
+use ipe_policy::{DevName, PathName};
 use ipe_words::Bytes;
 use std::alloc::{AllocError, Global};
 use std::marker::Model;
@@ -22,14 +24,6 @@ const MOST_FILES: usize = 1024;
 const MOST_MARKS: usize = 4096;
 
 const MOST_PHASES: usize = 1000;
-
-const MOST_COMMANDS: u32 = 100_000;
-
-const MOST_HOOKS: u32 = 200_000;
-
-const MOST_WORK: u64 = 1 << 30;
-
-const MOST_POLICY: usize = 4096;
 
 /// What is wrong with a line of a request file.
 #[derive(Clone, Copy, Debug, PartialEq, Eq)]
@@ -73,13 +67,13 @@ struct Reader {
     stage: Stage,
     texts: Texts,
     files: Files,
-    marks: Vec<usize>,
+    marks: Vec<MarkLine>,
     phases: Vec<Phase>,
     lines: Vec<PhaseLine>,
-    has_load: bool,
     commands: u32,
     hooks: u32,
     work: u64,
+    reads: u64,
 }
 
 impl Model for Reader {
@@ -95,9 +89,8 @@ impl Model for Reader {
 }
 
 impl Reader {
-    ghost use Rattle.std.specs.Prelude.{◌≡◌, ◌∷◌, [], IfOk, IsTrue, OnOk, None, false};
-    ghost use Rattle.std.specs.Option.{option_copied};
-    ghost use Rattle.ipe_script.specs.Grammar.{next, with_form, with_formed, raw_line, open_text, text_place, at_first, at_end, declare_text, declare_file, mark_text, begin_phase, add_load, add_activation, add_hook, end_file, file_named, work_of, with_line, may_hook, is_ended};
+    ghost use Rattle.std.specs.Prelude.{◌≡◌, IfOk, IsTrue, OnOk, None, false};
+    ghost use Rattle.ipe_script.specs.Grammar.{next, with_form, with_formed, raw_line, open_text, text_place, at_first, at_end, declare_text, declare_file, marked_at, add_mark, begin_phase, add_write, add_read, add_hook, end_file, may_hook, is_ended};
     ghost use Rattle.ipe_script.specs.Reader.{Takes};
 
     fn new(alloc: Global) -> Reader
@@ -110,10 +103,10 @@ impl Reader {
             marks: Vec::new(alloc),
             phases: Vec::new(alloc),
             lines: Vec::new(alloc),
-            has_load: false,
             commands: 0,
             hooks: 0,
             work: 0,
+            reads: 0,
         }
     }
 
@@ -197,10 +190,10 @@ impl Reader {
         match form {
             Form::Text(id, lines) => self.declare_text(alloc, id, lines),
             Form::File(path, dev, ino, text) => self.declare_file(alloc, path, dev, ino, &text),
-            Form::Mark(text) => self.mark_text(&text),
+            Form::Mark(purpose, verdict, marked) => self.add_mark(purpose, verdict, marked),
             Form::Phase => self.begin_phase(alloc),
-            Form::Load(text) => self.add_load(alloc, number, &text),
-            Form::Activate(name) => self.add_activation(number, name),
+            Form::Write(may, node, written) => self.add_write(number, may, node, written),
+            Form::Read(node) => self.add_read(number, node),
             Form::Hook(request, subject, path) => self.add_hook(number, request, subject, path),
             Form::End => self.end(alloc),
         }
@@ -249,16 +242,35 @@ impl Reader {
         Ok(true)
     }
 
-    fn mark_text(&mut self, text: &DevName) -> Result<bool, AllocError>
-        ensures { IfOk result (Takes (mark_text self.old text.now) self.new) }
+    // The digest of a mark, if the text that it names is there.
+    fn marked_at(&self, marked: Marked) -> Option<MarkDigest>
+        ensures { result ≡ marked_at self.now.script marked }
+    {
+        match marked {
+            Marked::Text(id) => Some(MarkDigest::Text(self.texts.place_of(id.as_slice())?)),
+            Marked::Hex(bytes) => Some(MarkDigest::Hex(bytes)),
+        }
+    }
+
+    fn add_mark(
+        &mut self,
+        purpose: MarkPurpose,
+        verdict: MarkVerdict,
+        marked: Marked,
+    ) -> Result<bool, AllocError>
+        ensures { IfOk result (Takes (add_mark self.old purpose verdict marked) self.new) }
     {
         if !self.stage.may_mark() || self.marks.len() >= MOST_MARKS {
             return Ok(false);
         }
-        let Some(place) = self.texts.place_of(text.as_slice()) else {
+        let Some(digest) = self.marked_at(marked) else {
             return Ok(false);
         };
-        self.marks.push(place)?;
+        self.marks.push(MarkLine {
+            purpose,
+            verdict,
+            digest,
+        })?;
         self.stage = Stage::Marks;
         Ok(true)
     }
@@ -299,118 +311,6 @@ impl Reader {
         Ok(true)
     }
 
-    // Puts a line last in the phase that has begun last.
-    fn add_line(&mut self, hooked: bool, line: PhaseLine) -> Result<(), AllocError>
-        requires { IsTrue (may_hook self.old.stage) }
-        ensures { OnOk result (self.new ≡ with_line self.old hooked line.line line.task) }
-    {
-        self.stage = Stage::InPhase { hooked };
-        self.lines.push(line)?;
-        Ok(())
-    }
-
-    fn add_load(&mut self, alloc: Global, number: u32, text: &DevName) -> Result<bool, AllocError>
-        ensures { IfOk result (Takes (add_load self.old number text.now) self.new) }
-    {
-        if !self.stage.may_command() || self.has_load || self.commands >= MOST_COMMANDS {
-            return Ok(false);
-        }
-        let Some(place) = self.texts.place_of(text.as_slice()) else {
-            return Ok(false);
-        };
-        let bytes = self.texts.bytes_at(place);
-        let length = bytes.len();
-        if length > MOST_POLICY || length as u64 > MOST_WORK - self.work {
-            return Ok(false);
-        }
-        if !reads_as_policy(alloc, bytes)? {
-            return Ok(false);
-        }
-        self.add_line(
-            false,
-            PhaseLine {
-                line: number,
-                task: Task::Load(place),
-            },
-        )?;
-        self.has_load = true;
-        self.commands += 1;
-        self.work += length as u64;
-        Ok(true)
-    }
-
-    fn add_activation(&mut self, number: u32, name: Name) -> Result<bool, AllocError>
-        ensures { IfOk result (Takes (add_activation self.old number name) self.new) }
-    {
-        if !self.stage.may_command() || self.commands >= MOST_COMMANDS {
-            return Ok(false);
-        }
-        self.add_line(
-            false,
-            PhaseLine {
-                line: number,
-                task: Task::Activate(name),
-            },
-        )?;
-        self.commands += 1;
-        Ok(true)
-    }
-
-    // The place of the file that is named, if one is.
-    fn file_named(&self, path: Option<&PathName>) -> Option<Option<usize>>
-        ensures { result ≡ file_named self.now.script (option_copied path.entry) }
-    {
-        match path {
-            Some(path) => Some(Some(self.files.place_of(path.as_slice())?)),
-            None => Some(None),
-        }
-    }
-
-    // The bytes that a hook reads.
-    fn work_of(&self, request: Request, file: Option<usize>) -> u64
-        ensures { result ≡ work_of self.now.script request file }
-    {
-        match file {
-            Some(place) if reads_file(request) => self.files.size_at(&self.texts, place) as u64,
-            _ => 0,
-        }
-    }
-
-    fn add_hook(
-        &mut self,
-        number: u32,
-        request: Request,
-        subject: Subject,
-        path: Option<PathName>,
-    ) -> Result<bool, AllocError>
-        ensures { IfOk result (Takes (add_hook self.old number request subject path) self.new) }
-    {
-        if !self.stage.may_hook() || self.hooks >= MOST_HOOKS {
-            return Ok(false);
-        }
-        let Some(file) = self.file_named(path.as_ref()) else {
-            return Ok(false);
-        };
-        let work = self.work_of(request, file);
-        if work > MOST_WORK - self.work {
-            return Ok(false);
-        }
-        self.add_line(
-            true,
-            PhaseLine {
-                line: number,
-                task: Task::Hook {
-                    request,
-                    subject,
-                    file,
-                },
-            },
-        )?;
-        self.hooks += 1;
-        self.work += work;
-        Ok(true)
-    }
-
     fn has_ended(&self) -> bool
         ensures { result ≡ is_ended self.now.stage }
     {
@@ -438,13 +338,6 @@ impl Reader {
     }
 }
 
-// A program check or a kernel read reads the file.
-fn reads_file(request: Request) -> bool
-    ensures { result ≡ reads_file request }
-{
-    matches!(request, Request::ExecCheck | Request::KernelRead(_))
-}
-
 // A line of a text, with the line feed behind it.
 fn append_line(bytes: &mut Vec<u8>, line: &[u8]) -> Result<(), AllocError>
     ensures { OnOk result (bytes.new.items ≡ bytes.old.items ++ line.now ++ 10 ∷ []) }
@@ -452,17 +345,6 @@ fn append_line(bytes: &mut Vec<u8>, line: &[u8]) -> Result<(), AllocError>
     bytes.extend_from_slice(line)?;
     bytes.push(b'\n')?;
     Ok(())
-}
-
-fn reads_as_policy(alloc: Global, bytes: &[u8]) -> Result<bool, AllocError>
-    requires { length bytes.now ≤ 1048576 }
-    ensures { IfOk result (λ reads. reads ≡ is_ok (reading bytes.now)) }
-{
-    match parse(alloc, bytes) {
-        Ok(_) => Ok(true),
-        Err(ParseError::NoMemory) => Err(AllocError),
-        Err(ParseError::Bad { .. } | ParseError::NoDefault { .. }) => Ok(false),
-    }
 }
 
 fn first_line_feed(bytes: &[u8]) -> Option<usize>

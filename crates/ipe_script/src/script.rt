@@ -1,6 +1,6 @@
 ghost use Rattle.std.specs.Prelude.{◌≡◌, List, ℕ};
 
-use ipe_policy::{DevName, Name, PathName, Request, Subject};
+use ipe_policy::{DevName, DigestBytes, PathName, Request, Subject};
 use ipe_words::Bytes;
 use std::marker::Model;
 
@@ -20,11 +20,57 @@ pub struct FileLine {
     pub text: usize,
 }
 
-/// What a line of a phase asks. A text or a file is named by its place among the declared ones.
+/// What a mark vouches for a digest as.
+#[derive(Clone, Copy, Debug, PartialEq, Eq)]
+pub enum MarkPurpose {
+    Policy,
+    Root,
+    File,
+}
+
+/// What a mark says of a digest.
+#[derive(Clone, Copy, Debug, PartialEq, Eq)]
+pub enum MarkVerdict {
+    Trusted,
+    Unknown,
+    Revoked,
+}
+
+/// The digest of a mark: the SHA-256 of a text, which is named by its place among the declared ones, or these 32 bytes.
+#[derive(Debug, Drop)]
+pub enum MarkDigest {
+    Text(usize),
+    Hex(DigestBytes),
+}
+
+/// A mark of a digest.
+#[derive(Debug, Drop)]
+pub struct MarkLine {
+    pub purpose: MarkPurpose,
+    pub verdict: MarkVerdict,
+    pub digest: MarkDigest,
+}
+
+/// What is written to a node: a declared text, named by its place; a word, behind which a line feed is written; or bytes.
+#[derive(Debug, Drop)]
+pub enum WriteContent {
+    Text(usize),
+    Echo(Bytes),
+    Hex(Bytes),
+}
+
+/// What a line of a phase asks: a write to a node by one who has the administrator's right, or hasn't (`may`), a read of
+/// a node by the administrator, or a hook. A file is named by its place among the declared ones.
 #[derive(Debug, Drop)]
 pub enum Task {
-    Load(usize),
-    Activate(Name),
+    Write {
+        may: bool,
+        node: Bytes,
+        content: WriteContent,
+    },
+    Read {
+        node: Bytes,
+    },
     Hook {
         request: Request,
         subject: Subject,
@@ -54,12 +100,12 @@ impl Model for Phase {
     ghost view = { λ s. s.lines.items };
 }
 
-/// What a request file declares and asks. `marks` are the places of the texts that are trusted policies.
+/// What a request file declares and asks.
 #[derive(Debug, Drop)]
 pub struct Requests {
     pub texts: Vec<TextLine>,
     pub files: Vec<FileLine>,
-    pub marks: Vec<usize>,
+    pub marks: Vec<MarkLine>,
     pub phases: Vec<Phase>,
 }
 

@@ -1,39 +1,43 @@
 -- The lines of a transcript.
-use Rattle.std.specs.Prelude.{ℕ, ℤ, pos, neg_ℤ, codes, List, [], ◌∷◌, ◌++◌, Option, Some, None, Result, Ok, Err}
+use Rattle.std.specs.Prelude.{ℕ, ℤ, Bool, codes, List, [], ◌∷◌, ◌++◌, if◌then◌else◌, Option, Some, None}
+use Rattle.std.specs.List.{flat_map}
 use Rattle.std.specs.Fmt.{decimal, signed_decimal}
-use Rattle.ipe_words.specs.Number.{errno_number}
-use Rattle.ipe_policy.specs.declared.evaluation.Found.{Found}
+use Rattle.hex.specs.Hex.{encode_lower}
 use Rattle.ipe_policy.specs.declared.evaluation.Which.{Which}
 use Rattle.ipe_policy.specs.declared.evaluation.Which.TheVariants as which
-use Rattle.ipe_machine.specs.declared.answer.Done.{Done}
-use Rattle.ipe_machine.specs.declared.answer.Refusal.{Refusal}
-use Rattle.ipe_machine.specs.declared.event.CoreOutcome.{CoreOutcome}
-use Rattle.ipe_machine.specs.declared.event.CoreRuling.{CoreRuling}
 use Rattle.ipe_machine.specs.declared.event.Place.{Place}
-use Rattle.ipe_machine.specs.declared.event.Reply.{Reply}
-use Rattle.ipe_machine.specs.declared.event.Reply.TheVariants as reply
-use Rattle.ipe_machine.specs.Refusals.{errno_of}
+use Rattle.ipe_transcript.specs.declared.entry.Entry.{Entry}
+use Rattle.ipe_transcript.specs.declared.entry.Entry.TheVariants as entry
 
 -- a line with its line feed
 abbrev pub line_text : List ℕ → List ℕ
 line_text text = text ++ 10 ∷ []
 
--- 0, or a minus sign and the number of the error
-abbrev pub outcome_code : Result Done Refusal → ℤ
-outcome_code (Ok done) = pos 0
-outcome_code (Err refusal) = neg_ℤ (pos (errno_number (errno_of refusal)))
+-- who wrote: one who may administer, or one who may not
+abbrev pub who_text : Bool → List ℕ
+who_text may = if may then codes " admin" else codes " guest"
 
--- that the administrator wrote, and the code
-abbrev pub written_text : ℕ → ℤ → List ℕ
-written_text line code = codes "line=" ++ decimal line ++ codes " admin code=" ++ signed_decimal code
+-- the number of a line, who acted, and the code
+abbrev pub acted_text : ℕ → List ℕ → ℤ → List ℕ
+acted_text line who code = codes "line=" ++ decimal line ++ who ++ codes " code=" ++ signed_decimal code
 
--- the entry of a write by the administrator
-abbrev pub write_text : ℕ → CoreOutcome → List ℕ
-write_text line outcome = written_text line (outcome_code outcome.reply) ++ codes " epoch=" ++ decimal outcome.epoch
+-- a write: the epoch is the one after it
+abbrev pub write_text : ℕ → Bool → ℤ → ℕ → List ℕ
+write_text line may code epoch = acted_text line (who_text may) code ++ codes " epoch=" ++ decimal epoch
 
--- whose hook it is, of worker 1, and its code
-abbrev pub ruled_text : ℕ → ℤ → List ℕ
-ruled_text line code = codes "line=" ++ decimal line ++ codes " w1 code=" ++ signed_decimal code
+-- bytes as hexadecimal digits, or a dash for none
+abbrev pub bytes_text : List ℕ → List ℕ
+bytes_text [] = codes "-"
+bytes_text (byte ∷ bytes) = encode_lower (byte ∷ bytes)
+
+-- what was read, where the read was answered
+abbrev pub told_text : Option (List ℕ) → List ℕ
+told_text None = []
+told_text (Some bytes) = codes " bytes=" ++ bytes_text bytes
+
+-- a read
+abbrev pub read_text : ℕ → ℤ → ℕ → Option (List ℕ) → List ℕ
+read_text line code epoch bytes = acted_text line (codes " admin") code ++ codes " epoch=" ++ decimal epoch ++ told_text bytes
 
 -- the place of a claim, or dashes where there was none
 abbrev pub place_text : Option Place → List ℕ
@@ -45,23 +49,24 @@ abbrev pub serial_text : Option ℕ → List ℕ
 serial_text None = codes " policy=-"
 serial_text (Some serial) = codes " policy=" ++ decimal serial
 
--- which statement decided
-abbrev pub which_text : Which → List ℕ
-which_text (which.Rule number) = codes " by=rule:" ++ decimal number
-which_text which.OpDefault = codes " by=op"
-which_text which.GlobalDefault = codes " by=global"
+-- which statement decided, or a dash where none did
+abbrev pub by_text : Option Which → List ℕ
+by_text None = codes " by=-"
+by_text (Some (which.Rule number)) = codes " by=rule:" ++ decimal number
+by_text (Some which.OpDefault) = codes " by=op"
+by_text (Some which.GlobalDefault) = codes " by=global"
 
--- the same, or a dash where none did
-abbrev pub found_text : Option Found → List ℕ
-found_text None = codes " by=-"
-found_text (Some found) = which_text found.which
+-- a hook of a worker
+abbrev pub hook_text : ℕ → ℕ → ℤ → Option Place → Option ℕ → Option Which → List ℕ
+hook_text line worker code place serial by = acted_text line (codes " w" ++ decimal worker) code ++ place_text place ++ serial_text serial ++ by_text by
 
--- the entry of a hook of worker 1
-abbrev pub hook_text : ℕ → CoreRuling → List ℕ
-hook_text line ruling = ruled_text line ruling.code ++ place_text ruling.place ++ serial_text ruling.serial ++ found_text ruling.found
+-- the record of an access, where one is due
+abbrev pub access_line : Option (List ℕ) → List ℕ
+access_line None = []
+access_line (Some record_line) = line_text record_line
 
--- the entry of a line with its reply, with its line feed; a return has none
-abbrev pub entry_text : ℕ → Reply → List ℕ
-entry_text line (reply.Command outcome) = line_text (write_text line outcome)
-entry_text line (reply.Claimed ruling) = line_text (hook_text line ruling)
-entry_text line reply.Returned = []
+-- an entry's line, with its record lines behind it
+abbrev pub entry_text : Entry → List ℕ
+entry_text (entry.Write line may code epoch records) = line_text (write_text line may code epoch) ++ flat_map line_text records
+entry_text (entry.Read line code epoch bytes) = line_text (read_text line code epoch bytes)
+entry_text (entry.Hook line worker code place serial by access) = line_text (hook_text line worker code place serial by) ++ access_line access

@@ -1,6 +1,8 @@
 //! The lines of a transcript.
 #![tactic(auto)]
 
-mod transcript;
+mod entry;
+mod printing;
 
-pub use transcript::print_reply;
+pub use entry::Entry;
+pub use printing::print_entry;

@@ -53,7 +53,8 @@ pub fn lint<S: Source, K: Sink>(alloc: Global, source: &mut S, sink: &mut K) -> 
     }
 }
 
-fn too_long(alloc: Global) -> Result<(Vec<u8>, Status), AllocError>
+// What is said of an input above the limit.
+pub fn too_long(alloc: Global) -> Result<(Vec<u8>, Status), AllocError>
     ensures text { IfOk result (λ answer. answer.0.items ≡ too_long_text) }
     ensures status { IfOk result (λ answer. answer.1 ≡ Status.Refused) }
 {

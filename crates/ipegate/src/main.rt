@@ -36,6 +36,8 @@ fn words(rt: &HostRuntime) -> Option<Vec<String>> {
 #[cfg(test)]
 mod lint_tests;
 #[cfg(test)]
+mod record_tests;
+#[cfg(test)]
 mod replay_tests;
 #[cfg(test)]
 mod tests;

@@ -1,9 +1,10 @@
 ghost use Rattle.std.specs.Prelude.{◌≡◌, ◌≢◌, ◌≤◌, ◌↔◌, ◌⊎◌, [], length, map, IfOk, IfSome, Some, true, false, string_bytes};
 ghost use Rattle.ipe_words.specs.Count.{Rose};
-ghost use Rattle.ipegate.specs.Program.{IsReplay, IsRefusal, IsAnswer, too_long_text, bad_line_text, Writes, WritesPrefix};
+ghost use Rattle.ipegate.specs.Program.{IsReplay, IsRefusal, IsAnswer, bad_line_text, Writes, WritesPrefix};
 ghost use Rattle.ipegate.specs.Words.{asked_by, IsDone, IsRefused};
 
 use crate::lint;
+use crate::linter::too_long;
 use ipe_replay::replay;
 use ipe_script::{ScriptError, ScriptKind, parse_requests};
 use ipe_words::{ReadAllError, Sink, Source, Status, read_all, write_all};
@@ -75,7 +76,7 @@ fn run_replay<S: Source, K: Sink>(alloc: Global, source: &mut S, sink: &mut K) -
         Err(ReadAllError::NoMemory) => return Status::NoMemory,
     };
     match answer {
-        Ok((text, status)) => match write_all(sink, text.as_bytes()) {
+        Ok((text, status)) => match write_all(sink, &text) {
             Ok(()) => status,
             Err(_) => Status::WriteFault,
         },
@@ -83,18 +84,10 @@ fn run_replay<S: Source, K: Sink>(alloc: Global, source: &mut S, sink: &mut K) -
     }
 }
 
-fn too_long(alloc: Global) -> Result<(String, Status), AllocError>
-    ensures text { IfOk result (λ answer. string_bytes answer.0 ≡ too_long_text) }
-    ensures status { IfOk result (λ answer. answer.1 ≡ Status.Refused) }
-{
-    let text = String::from_str(alloc, "refused: too long\n")?;
-    Ok((text, Status::Refused))
-}
-
 // The text that an input is answered with, and the status.
-fn answer_to(alloc: Global, input: &[u8]) -> Result<(String, Status), AllocError>
+fn answer_to(alloc: Global, input: &[u8]) -> Result<(Vec<u8>, Status), AllocError>
     requires { length input.now ≤ 16777216 }
-    ensures { IfOk result (λ answer. IsAnswer input.now answer.1 (string_bytes answer.0)) }
+    ensures { IfOk result (λ answer. IsAnswer input.now answer.1 answer.0.items) }
 {
     match parse_requests(alloc, input) {
         Ok(requests) => Ok((replay(alloc, &requests)?, Status::Done)),
@@ -103,10 +96,11 @@ fn answer_to(alloc: Global, input: &[u8]) -> Result<(String, Status), AllocError
     }
 }
 
-fn bad_line(alloc: Global, line: u32, kind: ScriptKind) -> Result<String, AllocError>
-    ensures { IfOk result (λ text. string_bytes text ≡ bad_line_text line) }
+fn bad_line(alloc: Global, line: u32, kind: ScriptKind) -> Result<Vec<u8>, AllocError>
+    ensures { IfOk result (λ text. text.items ≡ bad_line_text line) }
 {
-    match kind {
-        ScriptKind::NotYet => format!(in alloc; "refused line {line}: NotYet\n"),
-    }
+    let text = match kind {
+        ScriptKind::NotYet => format!(in alloc; "refused line {line}: NotYet\n")?,
+    };
+    Ok(text.into_bytes())
 }

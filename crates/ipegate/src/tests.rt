@@ -9,7 +9,7 @@ pub fn answered(alloc: Global, words: &[&str], input: &[u8]) -> Result<(u8, Vec<
         owned.push(String::from_str(alloc, word)?)?;
     }
     let mut source = MemorySource::new(input.to_vec(alloc)?, 100, Vec::new(alloc));
-    let mut sink = MemorySink::new(alloc, 100, 4096, Vec::new(alloc))?;
+    let mut sink = MemorySink::new(alloc, 100, 65_536, Vec::new(alloc))?;
     let status = run(alloc, &owned, &mut source, &mut sink);
     Ok((status.number(), sink.written().to_vec(alloc)?))
 }

@@ -1,4 +1,4 @@
-use Rattle.std.proofs.Common.{◌≡◌, ◌+◌, ◌++◌, List, length, string_bytes, ap, ◌∙◌}
+use Rattle.std.proofs.Common.{◌≡◌, ◌+◌, ◌++◌, List, length, ap, ◌∙◌}
 use Rattle.std.proofs.lemmas.Result.{on_ok_weaker}
 use Rattle.ipe_script.specs.declared.script.PhaseLine.{PhaseLine}
 use Rattle.ipe_history.specs.Order.{after_lines}
@@ -40,9 +40,9 @@ returns-clause-out c =
     let order : early ++ commands ++ late ≡ printed c.args.phase.now = c.printed_parts.ensures.order ∙ ap printed same in
     on_ok_weaker c.replay_lines-3.result (λ last.
     text-parts script c.args.state.now c.replay_lines.new.state c.replay_lines-2.new.state early commands late
-    (string_bytes c.args.out.now) (string_bytes c.replay_lines.new.out) (string_bytes c.replay_lines-2.new.out) (string_bytes c.replay_lines-3.new.out)
+    (c.args.out.now.items) (c.replay_lines.new.out.items) (c.replay_lines-2.new.out.items) (c.replay_lines-3.new.out.items)
     c.in_ok-replay_lines.ensures.after c.in_ok-replay_lines-2.ensures.after c.in_ok-replay_lines.ensures.out c.in_ok-replay_lines-2.ensures.out last
-    ∙ ap (λ (part : List PhaseLine). string_bytes c.args.out.now ++ lines_text script c.args.state.now part) order) c.replay_lines-3.ensures.out
+    ∙ ap (λ (part : List PhaseLine). c.args.out.now.items ++ lines_text script c.args.state.now part) order) c.replay_lines-3.ensures.out
 
 pub returns-clause-after : goal.returns-clause-after
 returns-clause-after c =

@@ -1,4 +1,4 @@
-use Rattle.std.proofs.Common.{◌≡◌, ℕ, ◌+◌, ◌<◌, ◌++◌, List, map, length, drop, sum_by, codes, string_bytes, sym, ap, ◌∙◌, arith}
+use Rattle.std.proofs.Common.{◌≡◌, ℕ, ◌+◌, ◌<◌, ◌++◌, List, map, length, drop, sum_by, codes, sym, ap, ◌∙◌, arith}
 use Rattle.std.specs.Fmt.{decimal}
 use Rattle.ipe_script.specs.declared.script.PhaseLine.{PhaseLine}
 use Rattle.ipe_transcript.specs.Lines.{line_text}
@@ -30,10 +30,10 @@ loop-place-preserved c =
     let rest = phases_text script (i + 1 + 1) (after_lines script m part) (map printed (drop (i + 1) phases)) in
     let left : ℕ = sum_by length (drop (i + 1) phases) in
     let room = room-after_lines script m part left (room-fewer m (length part + left) (sum_by length (drop i phases)) (omega (arith, sum, printed_length x)) c.loop-place.invariant.room) in
-    let text : string_bytes c.replay_phase.new.out ++ rest ≡ string_bytes c.args.out.now ++ phases_text script 1 c.args.state.now (map printed phases) =
-    joined (string_bytes c.loop-place.out) (string_bytes c.writeln.new.self) (string_bytes c.replay_phase.new.out) (line_text (codes "phase " ++ decimal (i + 1))) (lines_text script m part) rest
-    c.in_ok-writeln.ensures.bytes c.in_ok-replay_phase.ensures.out
-    ∙ ap (λ (t : List ℕ). string_bytes c.loop-place.out ++ t) (sym (phases_text-drop script (i + 1) m phases i x lt c.phase-item.is))
+    let text : c.replay_phase.new.out.items ++ rest ≡ c.args.out.now.items ++ phases_text script 1 c.args.state.now (map printed phases) =
+    joined (c.loop-place.out.items) (c.print_heading.new.out.items) (c.replay_phase.new.out.items) (line_text (codes "phase " ++ decimal (i + 1))) (lines_text script m part) rest
+    c.in_ok-print_heading.ensures c.in_ok-replay_phase.ensures.out
+    ∙ ap (λ (t : List ℕ). c.loop-place.out.items ++ t) (sym (phases_text-drop script (i + 1) m phases i x lt c.phase-item.is))
     ∙ c.loop-place.invariant.printed in
     record {
       printed = rw c.in_ok-replay_phase.ensures.after text;

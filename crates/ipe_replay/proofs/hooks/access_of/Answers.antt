@@ -1,0 +1,26 @@
+use Rattle.std.proofs.Common.{◌≡◌, Some, true, option_copied, List, ℕ, sym, ap, ◌∙◌}
+use Rattle.ipe_policy.specs.Request.{evaluated_op, hook_of}
+use Rattle.ipe_image.proofs.Policies.{decide-alike}
+use Rattle.ipe_image.specs.Decision.{deciding}
+use Rattle.ipe_audit.specs.Records.{decided_text}
+use Rattle.ipe_machine.specs.Policies.{active_entry}
+use Rattle.ipe_machine.specs.Machine.{ruling_by}
+use Rattle.ipe_replay.specs.Ruled.{parts_in}
+use Rattle.ipe_replay.proofs.HookLemmas.{access_told}
+use Rattle.ipe_replay.proofs.hooks.access_of.Goals as goal
+
+pub returns : goal.returns
+returns c =
+    let m = c.args.state.now in
+    let op = c.in-Some-Some.op in
+    let entry = c.in-Some-Some.entry.now in
+    let ruled = c.in_ok-hit.ensures in
+    let asked : evaluated_op c.args.request ≡ Some op = cc in
+    let found : active_entry c.registry-registry.result.now ≡ Some entry = sym c.active_entry.ensures ∙ ap option_copied c.in-Some-Some.is-1 in
+    let active : active_entry m.policies ≡ Some entry = rw (← c.registry-registry.ensures) found in
+    let due : (ruling_by m entry op c.args.context.now).record_due ≡ true = cc in
+    let line = c.in_ok-line.ensures ruled.words (parts_in entry) c.args.context.now ruled.image ruled.answer in
+    let told : decided_text op (hook_of c.args.request) m.policies.enforce c.args.subject.now c.args.object.now (deciding (parts_in entry) op c.in_ok-hit.hit.found) ≡ Some c.in_ok-line.line.items =
+    rw (← c.hook.ensures, ← c.registry-registry.ensures, ← c.enforce.ensures) line in
+    ap (λ (text : List ℕ). Some text) c.from_vec.ensures
+    ∙ sym (access_told decide-alike m c.args.request c.args.subject.now c.args.object.now c.args.context.now op entry c.in_ok-hit.hit c.in_ok-line.line.items asked active due ruled told)

@@ -1,0 +1,20 @@
+-- What an entry's policy rules.
+use Rattle.std.specs.Prelude.{◌≡◌, ℕ, List, Some}
+use Rattle.ipe_policy.specs.declared.op.Op.{Op}
+use Rattle.ipe_policy.specs.declared.evaluation.Context.{Context}
+use Rattle.ipe_image.specs.declared.hit.Hit.{Hit}
+use Rattle.ipe_image.specs.Parts.{ImageParts, parts_of}
+use Rattle.ipe_image.specs.Reading.{image_in}
+use Rattle.ipe_image.specs.Answer.{IsAnswer}
+use Rattle.ipe_machine.specs.Policies as state
+use Rattle.ipe_machine.specs.Policies.{policy_in}
+
+-- the parts of the image of an entry's policy
+abbrev pub parts_in : state.Loaded → ImageParts
+parts_in entry = parts_of entry.serial (policy_in entry.text).items
+
+-- the image of an entry's policy decides this of a file
+pub record IsRuledBy (entry : state.Loaded) (op : Op) (context : Context) (hit : Hit) : Type 0 where
+  pub words : List ℕ
+  pub image : image_in words ≡ Some (parts_in entry)
+  pub answer : IsAnswer (parts_in entry) op context hit

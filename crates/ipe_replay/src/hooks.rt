@@ -1,0 +1,189 @@
+ghost use Rattle.std.specs.Prelude.{◌≡◌, IfOk, OnOk, Some};
+ghost use Rattle.ipe_image.specs.Reader.{filled};
+ghost use Rattle.ipe_image.specs.Reading.{image_in};
+ghost use Rattle.ipe_policy.specs.Request.{evaluated_op};
+ghost use Rattle.ipe_script.specs.declared.script.Task.TheVariants.{Hook};
+ghost use Rattle.ipe_signer.specs.Marks.{last_verdict};
+ghost use Rattle.ipe_machine.specs.Machine.{after_claim, ruling_by, ruling_for};
+ghost use Rattle.ipe_records.specs.Records.{access_of};
+ghost use Rattle.ipe_history.specs.Order.{after_hook, after_task, context_of, marks_of, object_of, task_reply};
+ghost use Rattle.ipe_history.specs.Transcript.{entry_of};
+ghost use Rattle.ipe_replay.specs.Room.{HasRoom};
+ghost use Rattle.ipe_replay.specs.Ruled.{IsRuledBy, parts_in};
+
+use ipe_audit::{LineBytes, access_line};
+use ipe_core::{CoreRuling, Entry as Loaded, Event, Reply, State, TrustList, step};
+use ipe_image::{CompileError, Hit, Image, SliceReader, compile, decide_words};
+use ipe_policy::{Action, Context, Object, Op, Request, Subject, decide};
+use ipe_script::Requests;
+use ipe_transcript::Entry;
+use std::alloc::{AllocError, Global};
+
+fn context_of(file: Option<usize>) -> Context
+    ensures { result ≡ context_of file }
+{
+    Context {
+        boot: file.is_some(),
+        dm: None,
+        fs: None,
+    }
+}
+
+fn object_of(requests: &Requests, file: Option<usize>) -> Result<Object, AllocError>
+    ensures { IfOk result (λ object. object ≡ object_of requests.now file) }
+{
+    let Some(place) = file else {
+        return Ok(Object::NoFile);
+    };
+    match requests.files.get(place) {
+        Some(file) => Ok(Object::File {
+            path: file.path.clone()?,
+            dev: file.dev.clone()?,
+            ino: file.ino,
+        }),
+        None => Ok(Object::NoFile),
+    }
+}
+
+// A loaded policy isn't too wide.
+fn image_of(alloc: Global, entry: &Loaded) -> Result<Image, AllocError>
+    ensures { IfOk result (λ image. image_in (filled 4096 image) ≡ Some (parts_in entry.now)) }
+{
+    match compile(alloc, &entry.policy, entry.serial) {
+        Ok(image) => Ok(image),
+        Err(CompileError::NoMemory) => Err(AllocError),
+        Err(CompileError::TooWide { .. }) => unreachable!(),
+    }
+}
+
+// What a policy's image answers.
+fn hit_of(alloc: Global, entry: &Loaded, op: Op, context: &Context) -> Result<Hit, AllocError>
+    ensures { IfOk result (IsRuledBy entry.now op context.now) }
+{
+    let image = image_of(alloc, entry)?;
+    let mut reader = SliceReader::new(image.words());
+    Ok(decide_words(&mut reader, op, context))
+}
+
+// A denial is recorded, also where it isn't enforced; what is allowed where success_audit is on.
+fn is_due(state: &State, entry: &Loaded, op: Op, context: &Context) -> bool
+    ensures { result ≡ (ruling_by state.now entry.now op context.now).record_due }
+{
+    let found = decide(&entry.policy, op, context);
+    found.action == Action::Deny || state.registry().success()
+}
+
+// The record of an access, where one is due.
+fn access_of(
+    alloc: Global,
+    state: &State,
+    request: Request,
+    subject: &Subject,
+    object: &Object,
+    context: &Context,
+) -> Result<Option<LineBytes>, AllocError>
+    ensures { IfOk result (λ access. access ≡ access_of state.now request subject.now object.now context.now) }
+{
+    let registry = state.registry();
+    let (Some(op), Some(entry)) = (request.op(), registry.active_entry()) else {
+        return Ok(None);
+    };
+    if !is_due(state, entry, op, context) {
+        return Ok(None);
+    }
+    let hit = hit_of(alloc, entry, op, context)?;
+    let line = access_line(
+        alloc,
+        op,
+        request.hook(),
+        registry.enforce(),
+        subject,
+        object,
+        &hit,
+    )?;
+    Ok(Some(LineBytes::from_vec(line)))
+}
+
+// The ruling on a hook, by which pass 0 holds the active policy.
+fn claimed(
+    alloc: Global,
+    signer: &TrustList,
+    state: &mut State,
+    request: Request,
+    subject: Subject,
+    object: Object,
+    context: Context,
+) -> Result<CoreRuling, AllocError>
+    requires room { HasRoom state.old 1 }
+    ensures ruling { IfOk result (λ ruling. ruling ≡ ruling_for state.old (evaluated_op request) context) }
+    ensures after { OnOk result (state.new ≡ after_claim state.old 0 (evaluated_op request)) }
+{
+    let event = Event::Claim {
+        pass: 0,
+        request,
+        subject,
+        object,
+        context,
+    };
+    match step(alloc, signer, state, &event)? {
+        Reply::Claimed(ruling) => Ok(ruling),
+        Reply::Command(_) | Reply::Returned => unreachable!(),
+    }
+}
+
+// The ruling on a hook of worker 1, which has pass 0. What it claims is returned at once.
+fn claim(
+    alloc: Global,
+    signer: &TrustList,
+    state: &mut State,
+    request: Request,
+    subject: Subject,
+    object: Object,
+    context: Context,
+) -> Result<CoreRuling, AllocError>
+    requires room { HasRoom state.old 1 }
+    ensures ruling { IfOk result (λ ruling. ruling ≡ ruling_for state.old (evaluated_op request) context) }
+    ensures after { OnOk result (state.new ≡ after_hook (last_verdict signer.now) state.old (evaluated_op request)) }
+{
+    let ruling = claimed(alloc, signer, state, request, subject, object, context)?;
+    if ruling.serial.is_some() {
+        step(alloc, signer, state, &Event::Return { pass: 0 })?;
+    }
+    Ok(ruling)
+}
+
+// The entry of a hook.
+pub(crate) fn hook_entry(
+    alloc: Global,
+    signer: &TrustList,
+    requests: &Requests,
+    state: &mut State,
+    line: u32,
+    request: Request,
+    subject: &Subject,
+    file: Option<usize>,
+) -> Result<Entry, AllocError>
+    requires signer { signer.now ≡ marks_of requests.now }
+    requires room { HasRoom state.old 1 }
+    ensures entry { IfOk result (λ made. made ≡ entry_of (record { line = line; task = Hook request subject.now file })
+        (task_reply requests.now state.old (Hook request subject.now file))) }
+    ensures after { OnOk result (state.new ≡ after_task requests.now state.old (Hook request subject.now file)) }
+{
+    let object = object_of(requests, file)?;
+    let context = context_of(file);
+    let access = access_of(alloc, state, request, subject, &object, &context)?;
+    let asker = Subject {
+        pid: subject.pid,
+        comm: subject.comm.clone()?,
+    };
+    let ruling = claim(alloc, signer, state, request, asker, object, context)?;
+    Ok(Entry::Hook {
+        line,
+        worker: 1,
+        code: ruling.code,
+        place: ruling.place,
+        serial: ruling.serial,
+        by: ruling.found.map(|found| found.which),
+        access,
+    })
+}
