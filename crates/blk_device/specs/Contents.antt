@@ -28,3 +28,7 @@ HasBytes told name at bytes =
 abbrev pub CanRead : Option Contents → List ℕ → ℕ → ℕ → Type 0
 CanRead told name at room =
     IfSome told (λ items. IfSome (content name items) (λ all. 0 < room → at < length all))
+
+-- where the contents are told, a device has the name, and these are all its bytes
+abbrev pub HasContent : Option Contents → List ℕ → List ℕ → Type 0
+HasContent told name bytes = IfSome told (λ items. content name items ≡ Some bytes)

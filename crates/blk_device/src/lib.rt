@@ -1,7 +1,7 @@
 //! Devices: bytes under names, which a program asks for from a place on.
 //!
 //! [`Devices`] is what a reader needs of them. They may fail, and count it. [`MemoryDevices`] fail where it is planned,
-//! [`ImageDevices`] never do, and [`FileDevices`] are the files of a system.
+//! [`ImageDevices`] never do, and [`FileDevices`] are the files of a system. [`read_device`] reads a device whole.
 #![tactic(auto)]
 
 mod devices;
@@ -9,12 +9,14 @@ mod files;
 mod image;
 mod memory;
 mod named_bytes;
+mod whole;
 
 pub use devices::{DevError, Devices, VerityError};
 pub use files::FileDevices;
 pub use image::ImageDevices;
 pub use memory::MemoryDevices;
 pub use named_bytes::NamedBytes;
+pub use whole::{ReadDeviceError, read_device};
 
 #[cfg(test)]
 mod tests;

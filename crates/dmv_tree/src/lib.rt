@@ -6,7 +6,8 @@
 mod shape;
 mod tree;
 
-pub use shape::{Shape, layout};
+pub use hash_tree::Shape;
+pub use shape::layout;
 pub use tree::{Tree, build};
 
 #[cfg(test)]

@@ -3,14 +3,7 @@ ghost use Rattle.hash_tree.specs.Shape.{IsHeight, blocks_above};
 ghost use Rattle.hash_tree.specs.Tree.{fan_out};
 ghost use Rattle.std.specs.Prelude.{◌≡◌, ◌<◌, ◌≤◌, IsTrue};
 
-/// How large a tree is.
-#[derive(Clone, Copy, Debug, PartialEq, Eq)]
-pub struct Shape {
-    /// The levels above the data.
-    pub levels: u8,
-    /// The hash blocks of all these levels.
-    pub hash_blocks: u64,
-}
+use hash_tree::Shape;
 
 /// The shape of the tree over this many blocks, 1 to 4,096, of 512, 1,024, 2,048 or 4,096 bytes each.
 pub fn layout(blocks: u64, block_size: u32) -> Shape
@@ -21,17 +14,5 @@ pub fn layout(blocks: u64, block_size: u32) -> Shape
     ensures count { result.hash_blocks ≡ blocks_above (fan_out block_size) blocks result.levels }
     ensures fewer { result.hash_blocks < blocks }
 {
-    let fan_out = u64::from(block_size / 32);
-    let mut level = blocks;
-    let mut levels = 0;
-    let mut hash_blocks = 0;
-    while level > 1 {
-        level = level.div_ceil(fan_out);
-        levels += 1;
-        hash_blocks += level;
-    }
-    Shape {
-        levels,
-        hash_blocks,
-    }
+    hash_tree::layout(blocks, block_size)
 }

@@ -1,12 +1,8 @@
 ghost use Rattle.dmv_tree.specs.Blocks.{AreBlocks};
 ghost use Rattle.hash_tree.specs.Chunks.{chunks};
-ghost use Rattle.hash_tree.specs.Tree.{fan_out, hash_blocks, root, salted, stored};
-ghost use Rattle.std.specs.Int.{div_ceil};
-ghost use Rattle.std.specs.List.{concat};
-ghost use Rattle.std.specs.Prelude.{◌≡◌, ◌*◌, ◌/◌, ◌≤◌, ◌++◌, length, IfOk};
+ghost use Rattle.hash_tree.specs.Tree.{root, stored};
+ghost use Rattle.std.specs.Prelude.{◌≡◌, ◌≤◌, length, IfOk};
 
-use super::layout;
-use sha2::{Digest, Sha256};
 use std::alloc::{AllocError, Global};
 use std::marker::Model;
 
@@ -52,56 +48,6 @@ pub fn build(alloc: Global, image: &[u8], block_size: u32, salt: &[u8]) -> Resul
       bytes = stored block_size salt.now (chunks block_size image.now);
     }) }
 {
-    let size = block_size as usize;
-    let shape = layout((image.len() / size) as u64, block_size);
-    let mut stored = Vec::with_capacity(alloc, shape.hash_blocks as usize * size)?;
-    let root = add_levels(alloc, image, size, salt, &mut stored)?;
+    let hash_tree::Tree { root, stored } = hash_tree::build(alloc, image, block_size, salt)?;
     Ok(Tree { root, stored })
-}
-
-// Adds the levels above this one, the highest first, and gives the root.
-fn add_levels(
-    alloc: Global,
-    level: &[u8],
-    size: usize,
-    salt: &[u8],
-    tree: &mut Vec<u8>,
-) -> Result<[u8; 32], AllocError>
-    requires { AreBlocks (length level.now) size }
-    ensures root { IfOk result (λ digest. digest ≡ root size salt.now (chunks size level.now)) }
-    ensures added { IfOk result (λ digest.
-        tree.new.items ≡ tree.old.items ++ stored size salt.now (chunks size level.now)) }
-{
-    if level.len() == size {
-        return Ok(salted_digest(salt, level));
-    }
-    let above = hash_level(alloc, level, size, salt)?;
-    let root = add_levels(alloc, &above, size, salt, tree)?;
-    tree.extend_from_slice(&above)?;
-    Ok(root)
-}
-
-// The hash blocks over a level's blocks, one after another.
-fn hash_level(alloc: Global, level: &[u8], size: usize, salt: &[u8]) -> Result<Vec<u8>, AllocError>
-    requires { AreBlocks (length level.now) size }
-    ensures { IfOk result (λ above. above.items ≡ concat (hash_blocks size salt.now (chunks size level.now))) }
-{
-    let digest_bytes = level.len() / size * 32;
-    let full = digest_bytes.div_ceil(size) * size;
-    let mut above = Vec::with_capacity(alloc, full)?;
-    for block in level.chunks(size) {
-        above.extend_from_slice(&salted_digest(salt, block))?;
-    }
-    above.resize(full, 0)?;
-    Ok(above)
-}
-
-// The digest of a block behind its salt.
-fn salted_digest(salt: &[u8], block: &[u8]) -> [u8; 32]
-    ensures { result ≡ salted salt.now block.now }
-{
-    let mut hasher = Sha256::new();
-    hasher.update(salt);
-    hasher.update(block);
-    hasher.finalize()
 }

@@ -1,7 +1,8 @@
 -- The shape of a hash tree, in numbers.
-use Rattle.std.specs.Prelude.{◌≡◌, ℕ, ◌-◌, ◌/◌, ◌^◌, ◌<◌, map, sum}
+use Rattle.std.specs.Prelude.{◌≡◌, ℕ, ◌-◌, ◌*◌, ◌/◌, ◌^◌, ◌<◌, ◌≤◌, map, sum}
 use Rattle.std.specs.Int.{div_ceil}
 use Rattle.std.specs.List.{range_with_len}
+use Rattle.hash_tree.specs.Tree.{fan_out}
 
 -- with h digests in a hash block, n blocks have L levels above them: L is the least whose h ^ L blocks hold all n
 pub record IsHeight (h n L : ℕ) : Type 0 where
@@ -15,3 +16,9 @@ level_blocks h n k = div_ceil n (h ^ k)
 -- how many blocks the levels from 1 to L have
 unfoldable pub blocks_above : ℕ → ℕ → ℕ → ℕ
 blocks_above h n L = sum (map (level_blocks h n) (range_with_len 1 L))
+
+-- digests fill a hash block of this size, at least four of them, and it has at most 4,096 bytes
+pub record IsHashBlockSize (size : ℕ) : Type 0 where
+  pub even : fan_out size * 32 ≡ size
+  pub wide : 4 ≤ fan_out size
+  pub small : size ≤ 4096

@@ -12,6 +12,10 @@ salted salt block = sha256 (salt ++ block)
 unfoldable pub filled : ℕ → List ℕ → List ℕ
 filled size bytes = bytes ++ replicate (size - length bytes) 0
 
+-- the blocks that bytes are cut into, each filled with zeros to the size
+unfoldable pub data_blocks : ℕ → List ℕ → List (List ℕ)
+data_blocks size bytes = map (filled size) (chunks size bytes)
+
 -- how many digests a hash block holds
 abbrev pub fan_out : ℕ → ℕ
 fan_out size = size / 32

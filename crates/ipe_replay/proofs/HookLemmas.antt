@@ -20,41 +20,53 @@ use Rattle.ipe_records.specs.Records.{access_by, access_for, access_of}
 use Rattle.ipe_replay.specs.Ruled.{IsRuledBy, parts_in}
 
 -- a pass that was free holds what it claims
-holds : (m : Machine) (entry : Loaded) → IsTrue (is_free (slice_get m.held 0)) → IsTrue (is_holding (slice_get (claimed m 0 (Some entry)).held 0))
+holds : (m : Machine) (entry : Loaded) → IsTrue (is_free (slice_get m.held 0))
+    → IsTrue (is_holding (slice_get (claimed m 0 (Some entry)).held 0))
 holds m entry free = go m.held free
   where
-    go : (held : List (Option ℕ)) → IsTrue (is_free (slice_get held 0)) → IsTrue (is_holding (slice_get (claimed (record m { held = held }) 0 (Some entry)).held 0))
+    go : (held : List (Option ℕ)) → IsTrue (is_free (slice_get held 0))
+        → IsTrue (is_holding (slice_get (claimed (record m { held = held }) 0 (Some entry)).held 0))
     go [] free = free
     go (h ∷ held) free = refl
 
-holds_at : (m : Machine) (op : Op) (context : Context) (entry : Option Loaded) → IsTrue (is_free (slice_get m.held 0)) → is_some (ruling_at m entry op context).serial ≡ true
-    → IsTrue (is_holding (slice_get (claimed m 0 entry).held 0))
+holds_at : (m : Machine) (op : Op) (context : Context) (entry : Option Loaded) → IsTrue (is_free (slice_get m.held 0))
+    → is_some (ruling_at m entry op context).serial ≡ true → IsTrue (is_holding (slice_get (claimed m 0 entry).held 0))
 holds_at m op context None free some = cc
 holds_at m op context (Some entry) free some = holds m entry free
 
 -- the pass of a claim that has a serial is held
-pub is_held : (m : Machine) (op : Option Op) (context : Context) → IsTrue (is_free (slice_get m.held 0)) → is_some (ruling_for m op context).serial ≡ true
-    → IsTrue (is_holding (slice_get (after_claim m 0 op).held 0))
+pub is_held : (m : Machine) (op : Option Op) (context : Context) → IsTrue (is_free (slice_get m.held 0))
+    → is_some (ruling_for m op context).serial ≡ true → IsTrue (is_holding (slice_get (after_claim m 0 op).held 0))
 is_held m None context free some = cc
 is_held m (Some op) context free some = holds_at m op context (active_entry m.policies) free some
 
 -- the record of an access that a statement decided
-decided : (m : Machine) (request : Request) (subject : Subject) (object : Object) (op : Op) (statement : Option Statement)
-    → option_map (access_by m request subject object op) statement ≡ decided_text op (hook_of request) m.policies.enforce subject object statement
+decided : (m : Machine) (request : Request) (subject : Subject) (object : Object) (op : Op)
+    → (statement : Option Statement)
+    → option_map (access_by m request subject object op) statement
+    ≡ decided_text op (hook_of request) m.policies.enforce subject object statement
 decided m request subject object op None = refl
 decided m request subject object op (Some statement) = refl
 
 -- the record of an access that is due, as the image of the policy tells it
-pub access_told : DecideAlike → (m : Machine) (request : Request) (subject : Subject) (object : Object) (context : Context) (op : Op) (entry : Loaded) (hit : Hit) (line : List ℕ)
-    → evaluated_op request ≡ Some op → active_entry m.policies ≡ Some entry → (ruling_by m entry op context).record_due ≡ true → IsRuledBy entry op context hit
-    → decided_text op (hook_of request) m.policies.enforce subject object (deciding (parts_in entry) op hit.found) ≡ Some line
+pub access_told : DecideAlike
+    → (m : Machine) (request : Request) (subject : Subject) (object : Object) (context : Context)
+    → (op : Op) (entry : Loaded) (hit : Hit) (line : List ℕ)
+    → evaluated_op request ≡ Some op → active_entry m.policies ≡ Some entry
+    → (ruling_by m entry op context).record_due ≡ true → IsRuledBy entry op context hit
+    → decided_text op (hook_of request) m.policies.enforce subject object (deciding (parts_in entry) op hit.found)
+    ≡ Some line
     → access_of m request subject object context ≡ Some line
 access_told alike m request subject object context op entry hit line asked active due ruled told =
-    let by_statement : Found → Option (List ℕ) = λ found. option_map (access_by m request subject object op) (deciding (parts_in entry) op found) in
-    let found : decision (policy_in entry.text).items op context ≡ Some hit.found = sym (alike (policy_in entry.text).items entry.serial op context) ∙ ruled.answer.decision in
+    let items : List Statement = (policy_in entry.text).items in
+    let by_statement : Found → Option (List ℕ) = λ found.
+    option_map (access_by m request subject object op) (deciding (parts_in entry) op found) in
+    let found : decision items op context ≡ Some hit.found =
+    sym (alike items entry.serial op context) ∙ ruled.answer.decision in
     ap (λ (o : Option Op). access_for m request subject object context o (active_entry m.policies)) asked
     ∙ ap (access_for m request subject object context (Some op)) active
-    ∙ ap (λ (d : Bool). cond {A = Option (List ℕ)} d (option_and_then by_statement (decision (policy_in entry.text).items op context)) None) due
+    ∙ ap (λ (d : Bool). cond {A = Option (List ℕ)} d (option_and_then by_statement (decision items op context)) None)
+    due
     ∙ ap (option_and_then by_statement) found
     ∙ decided m request subject object op (deciding (parts_in entry) op hit.found)
     ∙ told

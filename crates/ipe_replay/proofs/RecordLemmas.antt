@@ -1,5 +1,5 @@
 -- The records of a command are those that are told from the policies after it.
-use Rattle.std.proofs.Common.{◌≡◌, ℕ, ◌+◌, ◌-◌, ◌&&◌, not, eqb, Bool, true, false, cond, List, [], ◌∷◌, ◌++◌, length, Option, Some, None, Result, Ok, Err, length-append, refl, ap, ◌∙◌, arith}
+use Rattle.std.proofs.Common.{◌≡◌, ℕ, ◌+◌, ◌-◌, not, Bool, true, false, cond, List, [], ◌∷◌, ◌++◌, length, Option, Some, None, Result, Ok, Err, length-append, refl, ap, ◌∙◌, arith}
 use Rattle.std.specs.Borrow.{Bor}
 use Rattle.std.specs.Prelude.{nat_lt, slice_get}
 use Rattle.std.specs.List.{find, slice_set}
@@ -9,7 +9,6 @@ use Rattle.std.proofs.lemmas.Bool.{not-false}
 use Rattle.std.proofs.lemmas.List.Folds.{find-set}
 use Rattle.std.proofs.lemmas.List.Quantifiers.{position-Some}
 use Rattle.ipe_policy.specs.Words.{is_text}
-use Rattle.ipe_policy.specs.Version.{packed}
 use Rattle.ipe_policy.specs.Policy.{PolicyParts}
 use Rattle.ipe_policy.specs.Spelling.{words_of_image}
 use Rattle.ipe_audit.specs.declared.records.Brief.{Brief}
@@ -24,7 +23,7 @@ use Rattle.ipe_machine.specs.declared.answer.Done.TheVariants as done
 use Rattle.ipe_machine.specs.declared.answer.Refusal as refusal
 use Rattle.ipe_machine.specs.declared.answer.Refusal.{Refusal}
 use Rattle.ipe_machine.specs.Policies.{Policies, Loaded, active_entry, entry_named, entry_of, is_active, is_named, no_policy, place_of, policy_in, replaced}
-use Rattle.ipe_machine.specs.Answer.{Verdicts, act_answer, after, after_answer, answer, changed, is_revoked, is_unknown, last_epoch, later, most_text, most_words, update_of, verdict_on, when_it_is_taken, when_it_reads}
+use Rattle.ipe_machine.specs.Answer.{Verdicts, act_answer, after, after_answer, answer, changed, is_revoked, is_unknown, later, most_text, most_words, update_of, verdict_on, when_it_is_taken, when_it_reads}
 use Rattle.ipe_machine.proofs.Entries.{entry_named_is, place_is}
 use Rattle.ipe_records.specs.Records.{act_records, activation_of, answer_records, brief_of, records_of}
 use Rattle.ipe_replay.specs.Told.{act_told, activation_told, answer_told, load_told, update_told}
@@ -39,22 +38,30 @@ at_end : (loaded : List Loaded) (entry : Loaded) → slice_get (loaded ++ entry 
 at_end [] entry = refl
 at_end (first ∷ loaded) entry = at_end loaded entry
 
-last_of : (loaded : List Loaded) (entry : Loaded) → slice_get (loaded ++ entry ∷ []) (length (loaded ++ entry ∷ []) - 1) ≡ Some entry
+last_of : (loaded : List Loaded) (entry : Loaded)
+    → slice_get (loaded ++ entry ∷ []) (length (loaded ++ entry ∷ []) - 1) ≡ Some entry
 last_of loaded entry =
-    let place : length (loaded ++ entry ∷ []) - 1 ≡ length loaded = omega (arith, length-append loaded (entry ∷ [])) in
+    let place : length (loaded ++ entry ∷ []) - 1 ≡ length loaded =
+    omega (arith, length-append loaded (entry ∷ [])) in
     ap (slice_get (loaded ++ entry ∷ [])) place ∙ at_end loaded entry
 
 -- an answer that is no refusal has passed the test before it
-passed : (test : Bool) (why : Refusal) (rest : Result Done Refusal) (did : Done) → cond test (Err why) rest ≡ Ok did → (test ≡ false) × (rest ≡ Ok did)
+passed : (test : Bool) (why : Refusal) (rest : Result Done Refusal) (did : Done) → cond test (Err why) rest ≡ Ok did
+    → (test ≡ false) × (rest ≡ Ok did)
 passed true why rest did is = cc
 passed false why rest did is = (refl, is)
 
 -- an answer after a text is taken
-read_ok : (read : Result PolicyParts BadText) (go_on : PolicyParts → Result Done Refusal) (did : Done) → when_it_reads read go_on ≡ Ok did → (policy : PolicyParts) × (read ≡ Ok policy) × (go_on policy ≡ Ok did)
+read_ok : (read : Result PolicyParts BadText) (go_on : PolicyParts → Result Done Refusal) (did : Done)
+    → when_it_reads read go_on ≡ Ok did → (policy : PolicyParts) × (read ≡ Ok policy) × (go_on policy ≡ Ok did)
 read_ok (Err fault) go_on did is = cc
-read_ok (Ok policy) go_on did is = (policy, refl, (passed (nat_lt most_words (words_of_image policy.items)) (refusal.TheVariants.TooWide (words_of_image policy.items)) (go_on policy) did is).1)
+read_ok (Ok policy) go_on did is =
+    let words : ℕ = words_of_image policy.items in
+    (policy, refl, (passed (nat_lt most_words words) (refusal.TheVariants.TooWide words) (go_on policy) did is).1)
 
-taken_ok : (verdicts : Verdicts) (text : List ℕ) (go_on : PolicyParts → Result Done Refusal) (did : Done) → when_it_is_taken verdicts text go_on ≡ Ok did → (policy : PolicyParts) × (reading text ≡ Ok policy) × (go_on policy ≡ Ok did)
+taken_ok : (verdicts : Verdicts) (text : List ℕ) (go_on : PolicyParts → Result Done Refusal) (did : Done)
+    → when_it_is_taken verdicts text go_on ≡ Ok did
+    → (policy : PolicyParts) × (reading text ≡ Ok policy) × (go_on policy ≡ Ok did)
 taken_ok verdicts text go_on did is =
     let small = passed (nat_lt most_text (length text)) refusal.TheVariants.TooBig _ did is in
     let kept = passed (is_revoked (verdict_on verdicts text)) refusal.TheVariants.Rejected _ did small.1 in
@@ -62,13 +69,15 @@ taken_ok verdicts text go_on did is =
     read_ok (reading text) go_on did known.1
 
 -- an update that is done is of a loaded name, and brings this name
-update_ok : (verdicts : Verdicts) (policies : Policies) (name text : List ℕ) (found : Option Loaded) (did : Done) → update_of verdicts policies name text found ≡ Ok did → (entry : Loaded) × (found ≡ Some entry) × (is_text name (policy_in text).name ≡ true)
+update_ok : (verdicts : Verdicts) (policies : Policies) (name text : List ℕ) (found : Option Loaded) (did : Done)
+    → update_of verdicts policies name text found ≡ Ok did
+    → (entry : Loaded) × (found ≡ Some entry) × (is_text name (policy_in text).name ≡ true)
 update_ok verdicts policies name text None did is = cc
 update_ok verdicts policies name text (Some entry) did is =
-    let go_on : PolicyParts → Result Done Refusal = λ policy. cond (not (is_text name policy.name)) (Err refusal.TheVariants.OtherName) (cond (nat_lt (packed policy.version) (packed entry.version)) (Err (refusal.TheVariants.Stale entry.version policy.version)) (cond (is_active name policies && eqb policies.epoch last_epoch) (Err refusal.TheVariants.EpochFull) (Ok done.Updated))) in
-    let taken = taken_ok verdicts text go_on did is in
+    let taken = taken_ok verdicts text _ did is in
     let policy : PolicyParts = taken.0 in
-    let read : policy_in text ≡ policy = ap (λ (r : Result PolicyParts BadText). unwrap_or (result_ok r) no_policy) taken.1 in
+    let read : policy_in text ≡ policy =
+    ap (λ (r : Result PolicyParts BadText). unwrap_or (result_ok r) no_policy) taken.1 in
     let one = passed (not (is_text name policy.name)) refusal.TheVariants.OtherName _ did taken.2 in
     (entry, refl, ap (λ (p : PolicyParts). is_text name p.name) read ∙ not-false (is_text name policy.name) one.0)
 
@@ -76,66 +85,98 @@ abbrev no_entry : Loaded
 no_entry = record { name = []; version = no_policy.version; text = []; serial = 0 }
 
 -- an entry of a name that took the place of that of the name is the name's
-replaced_named : (name : List ℕ) (loaded : List Loaded) (old new : Loaded) → entry_named name loaded ≡ Some old → is_named name new ≡ true → entry_named name (replaced loaded name new) ≡ Some new
-replaced_named name loaded old new was named = entry_named_is name (replaced loaded name new) ∙ go (place_of name loaded) refl
+replaced_named : (name : List ℕ) (loaded : List Loaded) (old new : Loaded) → entry_named name loaded ≡ Some old
+    → is_named name new ≡ true → entry_named name (replaced loaded name new) ≡ Some new
+replaced_named name loaded old new was named =
+    entry_named_is name (replaced loaded name new) ∙ go (place_of name loaded) refl
   where
-    go : (at : Option ℕ) → place_of name loaded ≡ at → find (is_named name) (option_map_or (λ place. slice_set loaded place new) at loaded) ≡ Some new
+    go : (at : Option ℕ) → place_of name loaded ≡ at
+        → find (is_named name) (option_map_or (λ place. slice_set loaded place new) at loaded) ≡ Some new
     go None at = absurd (missing at)
       where
         missing : place_of name loaded ≡ None → ⊥
         missing at = cc
     go (Some place) at =
-        find-set (is_named name) loaded place new (place_is (is_named name) loaded place at) (position-Some (is_named name) loaded place no_entry at).0 named
+        let within = (position-Some (is_named name) loaded place no_entry at).0 in
+        find-set (is_named name) loaded place new (place_is (is_named name) loaded place at) within named
 
--- the policies with the entry that an update brings
+-- the list with the entry that an update brings
+abbrev with_entry : Policies → List ℕ → List ℕ → List Loaded
+with_entry policies name text = replaced policies.loaded name (entry_of policies.next text)
+
+-- the policies with it
 abbrev updated : Policies → List ℕ → List ℕ → Policies
-updated policies name text = record policies { loaded = replaced policies.loaded name (entry_of policies.next text); next = policies.next + 1 }
+updated policies name text = record policies { loaded = with_entry policies name text; next = policies.next + 1 }
 
-update_is_told : (old : Option Brief) (policies : Policies) (name text : List ℕ) (active : Bool) → is_active name policies ≡ active → entry_named name (replaced policies.loaded name (entry_of policies.next text)) ≡ Some (entry_of policies.next text)
-    → act_told old (cond active (later (updated policies name text)) (updated policies name text)) (Update name text) ≡ update_told old active (Some (entry_of policies.next text))
+update_is_told : (old : Option Brief) (policies : Policies) (name text : List ℕ) (active : Bool)
+    → is_active name policies ≡ active
+    → entry_named name (with_entry policies name text) ≡ Some (entry_of policies.next text)
+    → act_told old (cond active (later (updated policies name text)) (updated policies name text)) (Update name text)
+    ≡ update_told old active (Some (entry_of policies.next text))
 update_is_told old policies name text true is_it there =
-    ap (λ (a : Bool). update_told old a (entry_named name (replaced policies.loaded name (entry_of policies.next text)))) is_it ∙ ap (update_told old true) there
+    ap (λ (a : Bool). update_told old a (entry_named name (with_entry policies name text))) is_it
+    ∙ ap (update_told old true) there
 update_is_told old policies name text false is_it there =
-    ap (λ (a : Bool). update_told old a (entry_named name (replaced policies.loaded name (entry_of policies.next text)))) is_it ∙ ap (update_told old false) there
+    ap (λ (a : Bool). update_told old a (entry_named name (with_entry policies name text))) is_it
+    ∙ ap (update_told old false) there
 
 abbrev old_brief : Policies → Option Brief
 old_brief policies = option_map brief_of (active_entry policies)
 
--- an act's records, of a loaded policy or none
-activation_is_told : (policies : Policies) (entry : Option Loaded) → activation_told (old_brief policies) entry ≡ option_map_or (λ (e : Loaded). activation_of policies e ∷ []) entry []
+-- the records of an activation of a loaded policy, or of none
+activation_is_told : (policies : Policies) (entry : Option Loaded)
+    → activation_told (old_brief policies) entry
+    ≡ option_map_or (λ (e : Loaded). activation_of policies e ∷ []) entry []
 activation_is_told policies None = refl
 activation_is_told policies (Some entry) = refl
 
 -- the records of an act that was done
-act_is_told : (verdicts : Verdicts) (policies : Policies) (act : Act) (did : Done) → act_answer verdicts policies act ≡ Ok did → act_told (old_brief policies) (changed policies act) act ≡ act_records policies act
-act_is_told verdicts policies (Load text) did is = ap load_told (last_of policies.loaded (entry_of policies.next text))
+act_is_told : (verdicts : Verdicts) (policies : Policies) (act : Act) (did : Done)
+    → act_answer verdicts policies act ≡ Ok did
+    → act_told (old_brief policies) (changed policies act) act ≡ act_records policies act
+act_is_told verdicts policies (Load text) did is =
+    ap load_told (last_of policies.loaded (entry_of policies.next text))
 act_is_told verdicts policies (Update name text) did is =
     let found = update_ok verdicts policies name text (entry_named name policies.loaded) did is in
-    update_is_told (old_brief policies) policies name text (is_active name policies) refl (replaced_named name policies.loaded found.0 (entry_of policies.next text) found.1 found.2)
-act_is_told verdicts policies (Activate name wanted) did is = activation_is_told policies (entry_named name policies.loaded)
+    let new : Loaded = entry_of policies.next text in
+    update_is_told (old_brief policies) policies name text (is_active name policies) refl
+    (replaced_named name policies.loaded found.0 new found.1 found.2)
+act_is_told verdicts policies (Activate name wanted) did is =
+    activation_is_told policies (entry_named name policies.loaded)
 act_is_told verdicts policies (Delete name wanted) did is = refl
 act_is_told verdicts policies (Enforce wanted) did is = refl
 act_is_told verdicts policies (SuccessAudit wanted) did is = refl
 
 -- the records of an answer
-answer_is_told : (verdicts : Verdicts) (policies : Policies) (act : Act) (given : Result Done Refusal) → ((did : Done) → given ≡ Ok did → act_answer verdicts policies act ≡ Ok did)
+answer_is_told : (verdicts : Verdicts) (policies : Policies) (act : Act) (given : Result Done Refusal)
+    → ((did : Done) → given ≡ Ok did → act_answer verdicts policies act ≡ Ok did)
     → answer_told (old_brief policies) (after_answer policies act given) act given ≡ answer_records policies act given
 answer_is_told verdicts policies act (Err why) is = refl
-answer_is_told verdicts policies act (Ok done.AlreadyActive) is = refl
-answer_is_told verdicts policies act (Ok done.Same) is = refl
-answer_is_told verdicts policies act (Ok done.Loaded) is = act_is_told verdicts policies act done.Loaded (is done.Loaded refl)
-answer_is_told verdicts policies act (Ok done.Updated) is = act_is_told verdicts policies act done.Updated (is done.Updated refl)
-answer_is_told verdicts policies act (Ok done.Activated) is = act_is_told verdicts policies act done.Activated (is done.Activated refl)
-answer_is_told verdicts policies act (Ok done.Deleted) is = act_is_told verdicts policies act done.Deleted (is done.Deleted refl)
-answer_is_told verdicts policies act (Ok done.Changed) is = act_is_told verdicts policies act done.Changed (is done.Changed refl)
+answer_is_told verdicts policies act (Ok did) is = by_done did (act_is_told verdicts policies act did (is did refl))
+  where
+    by_done : (d : Done)
+        → act_told (old_brief policies) (changed policies act) act ≡ act_records policies act
+        → answer_told (old_brief policies) (after_answer policies act (Ok d)) act (Ok d)
+        ≡ answer_records policies act (Ok d)
+    by_done done.AlreadyActive told = refl
+    by_done done.Same told = refl
+    by_done done.Loaded told = told
+    by_done done.Updated told = told
+    by_done done.Activated told = told
+    by_done done.Deleted told = told
+    by_done done.Changed told = told
 
 -- what is answered to one who may administer is the act's answer
-permitted : (verdicts : Verdicts) (policies : Policies) (act : Act) (may : Bool) (did : Done) → cond may (act_answer verdicts policies act) (Err refusal.TheVariants.NotPermitted) ≡ Ok did → act_answer verdicts policies act ≡ Ok did
+permitted : (verdicts : Verdicts) (policies : Policies) (act : Act) (may : Bool) (did : Done)
+    → cond may (act_answer verdicts policies act) (Err refusal.TheVariants.NotPermitted) ≡ Ok did
+    → act_answer verdicts policies act ≡ Ok did
 permitted verdicts policies act true did is = is
 permitted verdicts policies act false did is = cc
 
 -- the records of a command
 pub command_is_told : (verdicts : Verdicts) (policies : Policies) (command : Command)
-    → answer_told (old_brief policies) (after verdicts policies command) command.act (answer verdicts policies command) ≡ records_of verdicts policies command
+    → answer_told (old_brief policies) (after verdicts policies command) command.act (answer verdicts policies command)
+    ≡ records_of verdicts policies command
 command_is_told verdicts policies command =
-    answer_is_told verdicts policies command.act (answer verdicts policies command) (permitted verdicts policies command.act command.may)
+    answer_is_told verdicts policies command.act (answer verdicts policies command)
+    (permitted verdicts policies command.act command.may)

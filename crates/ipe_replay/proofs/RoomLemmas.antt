@@ -47,15 +47,21 @@ after_answer-next p act (Ok done.Deleted) = changed-next p act
 after_answer-next p act (Ok done.Changed) = changed-next p act
 
 -- a command takes at most one serial and no claim
-room-command : (v : Verdicts) (m : Machine) (c : Command) (n : ℕ) → HasRoom m (suc n) → HasRoom (with_policies m (after v m.policies c)) n
+room-command : (v : Verdicts) (m : Machine) (c : Command) (n : ℕ) → HasRoom m (suc n)
+    → HasRoom (with_policies m (after v m.policies c)) n
 room-command v m c n room = record {
   serials = omega (arith, after_answer-next m.policies c.act (answer v m.policies c), room.serials);
-  claims = omega (arith, cond-le ((after v m.policies c).epoch == m.policies.epoch) m.count 0 m.count (omega arith) (omega arith), room.claims);
+  claims = omega (
+    arith,
+    cond-le ((after v m.policies c).epoch == m.policies.epoch) m.count 0 m.count (omega arith) (omega arith),
+    room.claims,
+  );
   free = room.free;
 }
 
 -- a pass that took something and returned it is free
-free-returned : (held : List (Option ℕ)) (serial : ℕ) → IsTrue (is_free (slice_get held 0)) → IsTrue (is_free (slice_get (slice_set (slice_set held 0 (Some serial)) 0 None) 0))
+free-returned : (held : List (Option ℕ)) (serial : ℕ) → IsTrue (is_free (slice_get held 0))
+    → IsTrue (is_free (slice_get (slice_set (slice_set held 0 (Some serial)) 0 None) 0))
 free-returned [] serial free = free
 free-returned (h ∷ held) serial free = refl
 
@@ -87,31 +93,39 @@ room-hook v m None n room = room-fewer m n (suc n) (omega arith) room
 room-hook v m (Some op) n room = room-entry v m (active_entry m.policies) n room
 
 -- a write takes at most one serial
-room-write : (v : Verdicts) (m : Machine) (asked : Result Command Refusal) (n : ℕ) → HasRoom m (suc n) → HasRoom (after_write v m asked) n
+room-write : (v : Verdicts) (m : Machine) (asked : Result Command Refusal) (n : ℕ) → HasRoom m (suc n)
+    → HasRoom (after_write v m asked) n
 room-write v m (Ok command) n room = room-command v m command n room
 room-write v m (Err refusal) n room = room-fewer m n (suc n) (omega arith) room
 
 -- after a line there is room for one less
-pub room-after_line : (script : Script) (m : Machine) (line : PhaseLine) (n : ℕ) → HasRoom m (suc n) → HasRoom (after_line script m line) n
+pub room-after_line : (script : Script) (m : Machine) (line : PhaseLine) (n : ℕ) → HasRoom m (suc n)
+    → HasRoom (after_line script m line) n
 room-after_line script m line n room = room-task line.task
   where
     room-task : (t : Task) → HasRoom (after_task script m t) n
-    room-task (task.Write may node content) = room-write (verdicts_of script) m (asked_by script may node content) n room
+    room-task (task.Write may node content) =
+        room-write (verdicts_of script) m (asked_by script may node content) n room
     room-task (task.Read node) = room-fewer m n (suc n) (omega arith) room
     room-task (task.Hook request subject file) = room-hook (verdicts_of script) m (evaluated_op request) n room
 
 -- after lines there is room for the others
-pub room-after_lines : (script : Script) (m : Machine) (lines : List PhaseLine) (n : ℕ) → HasRoom m (length lines + n) → HasRoom (after_lines script m lines) n
+pub room-after_lines : (script : Script) (m : Machine) (lines : List PhaseLine) (n : ℕ) → HasRoom m (length lines + n)
+    → HasRoom (after_lines script m lines) n
 room-after_lines script m [] n room = room-fewer m n (0 + n) (omega arith) room
 room-after_lines script m (line ∷ lines) n room =
     room-after_lines script (after_line script m line) lines n
-    (room-after_line script m line (length lines + n) (room-fewer m (suc (length lines + n)) (suc (length lines) + n) (omega arith) room))
+    (room-after_line script m line (length lines + n)
+    (room-fewer m (suc (length lines + n)) (suc (length lines) + n) (omega arith) room))
 
 -- room for three parts is room for each, behind those before it
-pub room-parts : (script : Script) (m : Machine) (early commands late : List PhaseLine) (n : ℕ) → length early + length commands + length late ≡ n → HasRoom m n
-    → HasRoom (after_lines script m early) (length commands) × HasRoom (after_lines script (after_lines script m early) commands) (length late)
+pub room-parts : (script : Script) (m : Machine) (early commands late : List PhaseLine) (n : ℕ)
+    → length early + length commands + length late ≡ n → HasRoom m n
+    → HasRoom (after_lines script m early) (length commands)
+    × HasRoom (after_lines script (after_lines script m early) commands) (length late)
 room-parts script m early commands late n all room =
-    let behind = room-after_lines script m early (length commands + length late) (room-fewer m (length early + (length commands + length late)) n (omega (arith, all)) room) in (
+    let behind = room-after_lines script m early (length commands + length late)
+    (room-fewer m (length early + (length commands + length late)) n (omega (arith, all)) room) in (
       room-fewer (after_lines script m early) (length commands) (length commands + length late) (omega arith) behind,
       room-after_lines script (after_lines script m early) commands (length late) behind,
     )

@@ -24,7 +24,8 @@ activation_told old (Some entry) = activation_text old (brief_of entry) ∷ []
 -- the records of an update by this entry, which is the active one or isn't
 abbrev pub update_told : Option Brief → Bool → Option state.Loaded → List (List ℕ)
 update_told old active None = []
-update_told old active (Some entry) = load_text (brief_of entry) ∷ (if active then activation_text old (brief_of entry) ∷ [] else [])
+update_told old active (Some entry) =
+    load_text (brief_of entry) ∷ (if active then activation_text old (brief_of entry) ∷ [] else [])
 
 -- the records of an act that made a step, from the policy that was active before it and the policies after it
 abbrev pub act_told : Option Brief → Policies → Act → List (List ℕ)

@@ -130,8 +130,8 @@ fn replay_phases(
     Ok(())
 }
 
-/// The transcript of the file's lines: in each phase the hooks before the first that is evaluated, the commands, and the
-/// other hooks.
+/// The transcript of the file's lines: in each phase the hooks before the first that is evaluated, the administrator's
+/// lines, and the other hooks. The records that a line makes stand behind its entry.
 pub fn replay(alloc: Global, requests: &Requests) -> Result<Vec<u8>, AllocError>
     requires { sum_by length requests.now.phases < 2 ^ 32 }
     ensures { IfOk result (λ text. text.items ≡ transcript requests.now (map printed requests.now.phases)) }

@@ -3,8 +3,8 @@ use ipe_machine::Place;
 use ipe_policy::Which;
 use ipe_words::Bytes;
 
-/// What a transcript tells of a line of the request file: the line's number, who acted, the code (0, or the number of the
-/// error below 0), and what else belongs to its kind.
+/// What a transcript tells of a line of the request file: the line's number, who acted, the code (0, or the number of
+/// the error below 0), and what else belongs to its kind.
 #[derive(Debug, Drop)]
 pub enum Entry {
     /// A write, the epoch after it, and the records that it makes.

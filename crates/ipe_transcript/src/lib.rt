@@ -6,3 +6,6 @@ mod printing;
 
 pub use entry::Entry;
 pub use printing::print_entry;
+
+#[cfg(test)]
+mod tests;

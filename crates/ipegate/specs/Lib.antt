@@ -1,3 +1,4 @@
 pub mod Program
 pub mod Lint
+pub mod Root
 pub mod Words

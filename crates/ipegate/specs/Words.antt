@@ -1,28 +1,98 @@
 -- What the program's words ask of it.
-use Rattle.std.specs.Prelude.{ℕ, codes, if◌then◌else◌, List, [], ◌∷◌, Option, Some, None}
-use Rattle.ipe_policy.specs.Words.{is_text}
-use Rattle.ipegate.specs.Program.{IsReplay, IsRefusal}
+use Rattle.std.specs.Prelude.{ℕ, Bool, true, false, ◌&&◌, nat_le, codes, if◌then◌else◌, List, [], ◌∷◌, length, Option, Some, None, IfSome, ◌⊎◌}
+use Rattle.std.specs.Result.{result_ok}
+use Rattle.hex.specs.Hex.{decode_of}
+use Rattle.blk_device.specs.Contents.{Contents}
+use Rattle.ipe_policy.specs.Words.{is_text, is_visible, is_word}
+use Rattle.ipegate.specs.Program.{IsReplay, IsRefusal, Writes, WritesPrefix}
 use Rattle.ipegate.specs.Lint.{IsLinted, IsLintRefusal}
+use Rattle.ipegate.specs.Root.{IsRooted, IsRootRefusal}
 
--- the programs that the words can name
+-- what the words can ask for; for a root, the size of a block, the salt and the device
 pub data Asked : Type 0 where
   replay : Asked
   lint : Asked
+  root : (block_size : ℕ) (salt device : List ℕ) → Asked
 
--- the program that the words name: one word, `replay` or `lint`
+-- the size of a block, in bytes
+abbrev pub block_size_of : List ℕ → Option ℕ
+block_size_of word =
+    if is_text (codes "512") word then Some 512
+    else if is_text (codes "1024") word then Some 1024
+    else if is_text (codes "2048") word then Some 2048
+    else if is_text (codes "4096") word then Some 4096
+    else None
+
+-- a salt: a dash for none, or 2 to 512 hexadecimal digits of either case, an even number of them
+abbrev pub salt_of : List ℕ → Option (List ℕ)
+salt_of word =
+    if is_text (codes "-") word then Some []
+    else if nat_le 2 (length word) && nat_le (length word) 512 then result_ok (decode_of word)
+    else None
+
+-- a device: 1 to 255 visible bytes
+abbrev pub is_device : List ℕ → Bool
+is_device word = is_word 1 255 is_visible word
+
+-- a root is asked for where all three are right
+abbrev pub root_of : Option ℕ → Option (List ℕ) → List ℕ → Option Asked
+root_of None salt device = None
+root_of (Some size) None device = None
+root_of (Some size) (Some salt) device = if is_device device then Some (root size salt device) else None
+
+-- the root that three words ask for: the size of a block, the salt and the device
+abbrev pub root_by : List ℕ → List ℕ → List ℕ → Option Asked
+root_by size salt device = root_of (block_size_of size) (salt_of salt) device
+
+-- what the words ask for: one word `replay` or `lint`, or `root` and three words
 abbrev pub asked_by : List (List ℕ) → Option Asked
 asked_by [] = None
-asked_by (word ∷ []) = if is_text (codes "replay") word then Some replay else if is_text (codes "lint") word then Some lint else None
-asked_by (word ∷ next ∷ words) = None
+asked_by (word ∷ []) =
+    if is_text (codes "replay") word then Some replay
+    else if is_text (codes "lint") word then Some lint
+    else None
+asked_by (word ∷ size ∷ []) = None
+asked_by (word ∷ size ∷ salt ∷ []) = None
+asked_by (word ∷ size ∷ salt ∷ device ∷ []) = if is_text (codes "root") word then root_by size salt device else None
+asked_by (word ∷ size ∷ salt ∷ device ∷ next ∷ words) = None
 
--- what is written for an input that is taken
-abbrev pub IsDone : Option Asked → List ℕ → List ℕ → Type 0
-IsDone None input text = ⊥
-IsDone (Some replay) input text = IsReplay input text
-IsDone (Some lint) input text = IsLinted input text
+-- the source is read: all but a root is made of its input
+abbrev pub reads_source : Option Asked → Bool
+reads_source None = false
+reads_source (Some replay) = true
+reads_source (Some lint) = true
+reads_source (Some (root size salt device)) = false
 
--- what is written for an input that is refused
-abbrev pub IsRefused : Option Asked → List ℕ → List ℕ → Type 0
-IsRefused None input text = ⊥
-IsRefused (Some replay) input text = IsRefusal input text
-IsRefused (Some lint) input text = IsLintRefusal input text
+-- devices are asked: only for a root
+abbrev pub asks_devices : Option Asked → Bool
+asks_devices None = false
+asks_devices (Some replay) = false
+asks_devices (Some lint) = false
+asks_devices (Some (root size salt device)) = true
+
+-- done: where the input is told, or for a root what the devices hold, what it is answered with was written
+abbrev pub WritesDone : Option Asked → Option (List ℕ) → Option Contents → Option (List ℕ) → Option (List ℕ) → Type 0
+WritesDone None input held before after = ⊥
+WritesDone (Some replay) input held before after = IfSome input (λ bytes. Writes (IsReplay bytes) before after)
+WritesDone (Some lint) input held before after = IfSome input (λ bytes. Writes (IsLinted bytes) before after)
+WritesDone (Some (root size salt device)) input held before after =
+    IfSome held (λ items. Writes (IsRooted items size salt device) before after)
+
+-- refused: where the input is told, or for a root what the devices hold, why it is refused was written
+abbrev pub WritesRefused : Option Asked → Option (List ℕ) → Option Contents → Option (List ℕ) → Option (List ℕ) → Type 0
+WritesRefused None input held before after = ⊥
+WritesRefused (Some replay) input held before after = IfSome input (λ bytes. Writes (IsRefusal bytes) before after)
+WritesRefused (Some lint) input held before after = IfSome input (λ bytes. Writes (IsLintRefusal bytes) before after)
+WritesRefused (Some (root size salt device)) input held before after =
+    IfSome held (λ items. Writes (IsRootRefusal items size device) before after)
+
+-- cut off: where the input is told, or for a root what the devices hold, some first bytes of its answer were written
+abbrev pub WritesSome : Option Asked → Option (List ℕ) → Option Contents → Option (List ℕ) → Option (List ℕ) → Type 0
+WritesSome None input held before after = ⊥
+WritesSome (Some replay) input held before after =
+    IfSome input (λ bytes. WritesPrefix (λ text. IsReplay bytes text ⊎ IsRefusal bytes text) before after)
+WritesSome (Some lint) input held before after =
+    IfSome input (λ bytes. WritesPrefix (λ text. IsLinted bytes text ⊎ IsLintRefusal bytes text) before after)
+WritesSome (Some (root size salt device)) input held before after =
+    IfSome held (λ items. WritesPrefix (λ text. IsRooted items size salt device text
+    ⊎ IsRootRefusal items size device text) before after)

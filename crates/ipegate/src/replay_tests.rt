@@ -1,5 +1,6 @@
 use super::run;
 use super::tests::answered;
+use blk_device::{ImageDevices, NamedBytes};
 use ipe_words::{MemorySink, MemorySource};
 use std::alloc::{AllocError, Global};
 use std::test::Fail;
@@ -103,7 +104,9 @@ fn replayed(
     words.push(String::from_str(alloc, "replay")?)?;
     let mut source = MemorySource::new(input.to_vec(alloc)?, 100, failing_reads.to_vec(alloc)?);
     let mut sink = MemorySink::new(alloc, 16, 4096, failing_writes.to_vec(alloc)?)?;
-    let status = run(alloc, &words, &mut source, &mut sink);
+    let items = NamedBytes::from_vec(Vec::new(alloc));
+    let mut devices = ImageDevices::new(&items);
+    let status = run(alloc, &words, &mut source, &mut sink, &mut devices);
     Ok((status.number(), sink.written().to_vec(alloc)?))
 }
 
@@ -134,7 +137,9 @@ fn an_input_above_the_limit_is_too_long(rt: HostRuntime) -> Result<(), Fail> {
     let input = vec![in alloc; b'\n'; 16_777_217]?;
     let mut source = MemorySource::new(input, 1 << 20, Vec::new(alloc));
     let mut sink = MemorySink::new(alloc, 4096, 4096, Vec::new(alloc))?;
-    let status = run(alloc, &words, &mut source, &mut sink);
+    let items = NamedBytes::from_vec(Vec::new(alloc));
+    let mut devices = ImageDevices::new(&items);
+    let status = run(alloc, &words, &mut source, &mut sink, &mut devices);
     assert_eq!(rt; status.number(), 3);
     assert_eq!(rt; sink.written(), b"refused: too long\n".as_slice());
     Ok(())

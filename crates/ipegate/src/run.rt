@@ -1,10 +1,12 @@
 ghost use Rattle.std.specs.Prelude.{◌≡◌, ◌≢◌, ◌≤◌, ◌↔◌, ◌⊎◌, [], length, map, IfOk, IfSome, Some, true, false, string_bytes};
 ghost use Rattle.ipe_words.specs.Count.{Rose};
 ghost use Rattle.ipegate.specs.Program.{IsReplay, IsRefusal, IsAnswer, bad_line_text, Writes, WritesPrefix};
-ghost use Rattle.ipegate.specs.Words.{asked_by, IsDone, IsRefused};
+ghost use Rattle.ipegate.specs.Words.{asked_by, asks_devices, reads_source, WritesDone, WritesRefused, WritesSome};
 
 use crate::lint;
 use crate::linter::too_long;
+use crate::words::root_by_words;
+use blk_device::Devices;
 use ipe_replay::replay;
 use ipe_script::{ScriptError, ScriptKind, parse_requests};
 use ipe_words::{ReadAllError, Sink, Source, Status, read_all, write_all};
@@ -13,45 +15,63 @@ use std::alloc::{AllocError, Global};
 /// The most bytes of a request file.
 const MOST_INPUT: u64 = 16_777_216;
 
-/// The program: what its words ask, from the source to the sink.
+/// The program: what its words ask, from the source and the devices to the sink.
 ///
-/// The one word is `replay` or `lint`: the source is read to its end, and the transcript of its requests, or what the linter
-/// says of its policy, or one line that says why the input is refused, is written. All of it is made before the first byte
-/// is written.
-pub fn run<S: Source, K: Sink>(
+/// With the one word `replay` or `lint` the source is read to its end, and the transcript of its requests, or what the
+/// linter says of its policy, or one line that says why the input is refused, is written. With `root`, the size of a
+/// block, a salt and a device, the root of the device's image is written, or one line that says why the device is
+/// refused. All of it is made before the first byte is written.
+pub fn run<S: Source, K: Sink, D: Devices>(
     alloc: Global,
     words: &Vec<String>,
     source: &mut S,
     sink: &mut K,
+    devices: &mut D,
 ) -> Status
     // Other words are refused, and then nothing is read or written.
     ensures usage { (result ≡ Status.Usage) ↔ (asked_by (map string_bytes words.now.items) ≡ None) }
-    ensures idle { result ≡ Status.Usage → (source.new ≡ source.old) × (sink.new ≡ sink.old) }
+    ensures idle { result ≡ Status.Usage →
+        (source.new ≡ source.old) × (sink.new ≡ sink.old) × (devices.new ≡ devices.old) }
 
-    // Done: the source was read to its end, and what was written is what its input is answered with.
-    ensures done_read { result ≡ Status.Done → IfSome (S.remaining source.old) (λ input. S.remaining source.new ≡ Some []) }
-    ensures done { result ≡ Status.Done → IfSome (S.remaining source.old) (λ input.
-        Writes (IsDone (asked_by (map string_bytes words.now.items)) input) (K.written sink.old) (K.written sink.new)) }
+    // Done: the source was read to its end, and what was written is what the words ask for. For a root the source isn't
+    // read, and else no device is asked.
+    ensures done_read { result ≡ Status.Done → reads_source (asked_by (map string_bytes words.now.items)) ≡ true →
+        IfSome (S.remaining source.old) (λ input. S.remaining source.new ≡ Some []) }
+    ensures source_stays { reads_source (asked_by (map string_bytes words.now.items)) ≡ false →
+        source.new ≡ source.old }
+    ensures devices_stay { asks_devices (asked_by (map string_bytes words.now.items)) ≡ false →
+        devices.new ≡ devices.old }
+    ensures contents_stay { D.contents devices.new ≡ D.contents devices.old }
+    ensures done { result ≡ Status.Done → WritesDone (asked_by (map string_bytes words.now.items))
+        (S.remaining source.old) (D.contents devices.old) (K.written sink.old) (K.written sink.new) }
 
-    // Refused: the input is too long, or has a first fault, and one line says so.
-    ensures refused { result ≡ Status.Refused → IfSome (S.remaining source.old) (λ input.
-        Writes (IsRefused (asked_by (map string_bytes words.now.items)) input) (K.written sink.old) (K.written sink.new)) }
+    // Refused: the input is too long, or has a first fault, or the device is refused, and one line says so.
+    ensures refused { result ≡ Status.Refused → WritesRefused (asked_by (map string_bytes words.now.items))
+        (S.remaining source.old) (D.contents devices.old) (K.written sink.old) (K.written sink.new) }
 
     // Faults come only where they were counted.
     ensures read_fault { result ≡ Status.ReadFault → Rose (S.faults source.old) (S.faults source.new) }
+    ensures device_fault { result ≡ Status.DeviceFault → Rose (D.faults devices.old) (D.faults devices.new) }
     ensures write_fault { result ≡ Status.WriteFault → Rose (K.faults sink.old) (K.faults sink.new) }
-    ensures write_prefix { result ≡ Status.WriteFault → IfSome (S.remaining source.old) (λ input.
-        WritesPrefix (λ text. IsDone (asked_by (map string_bytes words.now.items)) input text
-        ⊎ IsRefused (asked_by (map string_bytes words.now.items)) input text) (K.written sink.old) (K.written sink.new)) }
+    ensures write_prefix { result ≡ Status.WriteFault → WritesSome (asked_by (map string_bytes words.now.items))
+        (S.remaining source.old) (D.contents devices.old) (K.written sink.old) (K.written sink.new) }
 
     // Without an answer nothing is written.
-    ensures unread { result ≡ Status.ReadFault → sink.new ≡ sink.old }
+    ensures unread { (result ≡ Status.ReadFault) ⊎ (result ≡ Status.DeviceFault) → sink.new ≡ sink.old }
     ensures no_memory { result ≡ Status.NoMemory → sink.new ≡ sink.old }
-    ensures no_other { (result ≢ Status.No) × (result ≢ Status.DeviceFault) }
+    ensures no_other { result ≢ Status.No }
 {
     match words.as_slice() {
         [word] if word.as_str() == "replay" => run_replay(alloc, source, sink),
         [word] if word.as_str() == "lint" => lint(alloc, source, sink),
+        [word, size, salt, device] if word.as_str() == "root" => root_by_words(
+            alloc,
+            size.as_bytes(),
+            salt.as_bytes(),
+            device.as_bytes(),
+            sink,
+            devices,
+        ),
         _ => Status::Usage,
     }
 }

@@ -14,13 +14,20 @@ returns c =
     let m = c.args.state.now in
     let op = c.in-Some-Some.op in
     let entry = c.in-Some-Some.entry.now in
+    let hit = c.in_ok-hit.hit in
+    let subject = c.args.subject.now in
+    let object = c.args.object.now in
+    let context = c.args.context.now in
     let ruled = c.in_ok-hit.ensures in
     let asked : evaluated_op c.args.request ≡ Some op = cc in
-    let found : active_entry c.registry-registry.result.now ≡ Some entry = sym c.active_entry.ensures ∙ ap option_copied c.in-Some-Some.is-1 in
+    let found : active_entry c.registry-registry.result.now ≡ Some entry =
+    sym c.active_entry.ensures ∙ ap option_copied c.in-Some-Some.is-1 in
     let active : active_entry m.policies ≡ Some entry = rw (← c.registry-registry.ensures) found in
-    let due : (ruling_by m entry op c.args.context.now).record_due ≡ true = cc in
-    let line = c.in_ok-line.ensures ruled.words (parts_in entry) c.args.context.now ruled.image ruled.answer in
-    let told : decided_text op (hook_of c.args.request) m.policies.enforce c.args.subject.now c.args.object.now (deciding (parts_in entry) op c.in_ok-hit.hit.found) ≡ Some c.in_ok-line.line.items =
+    let due : (ruling_by m entry op context).record_due ≡ true = cc in
+    let line = c.in_ok-line.ensures ruled.words (parts_in entry) context ruled.image ruled.answer in
+    let told : decided_text op (hook_of c.args.request) m.policies.enforce subject object
+    (deciding (parts_in entry) op hit.found) ≡ Some c.in_ok-line.line.items =
     rw (← c.hook.ensures, ← c.registry-registry.ensures, ← c.enforce.ensures) line in
     ap (λ (text : List ℕ). Some text) c.from_vec.ensures
-    ∙ sym (access_told decide-alike m c.args.request c.args.subject.now c.args.object.now c.args.context.now op entry c.in_ok-hit.hit c.in_ok-line.line.items asked active due ruled told)
+    ∙ sym (access_told decide-alike m c.args.request subject object context op entry hit c.in_ok-line.line.items
+    asked active due ruled told)

@@ -3,8 +3,11 @@ use Rattle.ipe_replay.specs.Ruled.{parts_in}
 use Rattle.ipe_replay.proofs.hooks.hit_of.Goals as goal
 
 pub returns : goal.returns
-returns c = record {
-  words = filled 4096 c.in_ok-image.image;
-  image = c.in_ok-image.ensures;
-  answer = c.decide_words.ensures.answer (parts_in c.args.entry.now) (rw (c.new-reader.ensures, c.words.ensures.words) c.in_ok-image.ensures);
-}
+returns c =
+    let image = c.in_ok-image.ensures in
+    record {
+      words = filled 4096 c.in_ok-image.image;
+      image = image;
+      answer = c.decide_words.ensures.answer (parts_in c.args.entry.now)
+          (rw (c.new-reader.ensures, c.words.ensures.words) image);
+    }

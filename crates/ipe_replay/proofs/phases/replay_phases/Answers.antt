@@ -15,7 +15,8 @@ replay_phase-requires-clause-room c =
     let phases = c.deref-phase-items.result.now in
     let lt : c.loop-place.place < length phases = omega arith in
     let sum = sum-drop phases c.loop-place.place c.phase-item.result lt c.phase-item.is in
-    room-fewer c.loop-place.state (length c.phase-item.result) (sum_by length (drop c.loop-place.place phases)) (omega (arith, sum)) c.loop-place.invariant.room
+    room-fewer c.loop-place.state (length c.phase-item.result) (sum_by length (drop c.loop-place.place phases))
+    (omega (arith, sum)) c.loop-place.invariant.room
 
 pub loop-place-preserved : goal.loop-place-preserved
 loop-place-preserved c =
@@ -29,11 +30,16 @@ loop-place-preserved c =
     let part : List PhaseLine = printed x in
     let rest = phases_text script (i + 1 + 1) (after_lines script m part) (map printed (drop (i + 1) phases)) in
     let left : ℕ = sum_by length (drop (i + 1) phases) in
-    let room = room-after_lines script m part left (room-fewer m (length part + left) (sum_by length (drop i phases)) (omega (arith, sum, printed_length x)) c.loop-place.invariant.room) in
-    let text : c.replay_phase.new.out.items ++ rest ≡ c.args.out.now.items ++ phases_text script 1 c.args.state.now (map printed phases) =
-    joined (c.loop-place.out.items) (c.print_heading.new.out.items) (c.replay_phase.new.out.items) (line_text (codes "phase " ++ decimal (i + 1))) (lines_text script m part) rest
+    let room = room-after_lines script m part left
+    (room-fewer m (length part + left) (sum_by length (drop i phases)) (omega (arith, sum, printed_length x))
+    c.loop-place.invariant.room) in
+    let text : c.replay_phase.new.out.items ++ rest
+    ≡ c.args.out.now.items ++ phases_text script 1 c.args.state.now (map printed phases) =
+    joined (c.loop-place.out.items) (c.print_heading.new.out.items) (c.replay_phase.new.out.items)
+    (line_text (codes "phase " ++ decimal (i + 1))) (lines_text script m part) rest
     c.in_ok-print_heading.ensures c.in_ok-replay_phase.ensures.out
-    ∙ ap (λ (t : List ℕ). c.loop-place.out.items ++ t) (sym (phases_text-drop script (i + 1) m phases i x lt c.phase-item.is))
+    ∙ ap (λ (t : List ℕ). c.loop-place.out.items ++ t)
+    (sym (phases_text-drop script (i + 1) m phases i x lt c.phase-item.is))
     ∙ c.loop-place.invariant.printed in
     record {
       printed = rw c.in_ok-replay_phase.ensures.after text;

@@ -1,0 +1,56 @@
+ghost use Rattle.blk_device.specs.Contents.{HasContent, HasNone, HasSize};
+ghost use Rattle.ipe_words.specs.Count.{Rose};
+ghost use Rattle.std.specs.Prelude.{◌≡◌, ◌≤◌, length, IfOk, IsErrOf, OnOk};
+
+use super::{DevError, Devices};
+use std::alloc::Global;
+
+/// Why a whole device was not read.
+#[derive(Clone, Copy, Debug, PartialEq, Eq)]
+pub enum ReadDeviceError {
+    /// A call failed, and was counted.
+    Failed,
+    /// No device has the name.
+    Missing,
+    /// Memory is short.
+    NoMemory,
+}
+
+/// Reads a whole device, whose size in bytes [`Devices::size`] told, in as many calls as it needs.
+pub fn read_device<D: Devices>(
+    alloc: Global,
+    devices: &mut D,
+    name: &[u8],
+    size: u64,
+) -> Result<Vec<u8>, ReadDeviceError>
+    requires { HasSize (D.contents devices.old) name.now size }
+    ensures count { IfOk result (λ bytes. length bytes.items ≡ size) }
+    ensures content { IfOk result (λ bytes. HasContent (D.contents devices.old) name.now bytes.items) }
+    ensures missing { IsErrOf result ReadDeviceError.Missing → HasNone (D.contents devices.old) name.now }
+    ensures failed { IsErrOf result ReadDeviceError.Failed → Rose (D.faults devices.old) (D.faults devices.new) }
+    ensures same { D.contents devices.new ≡ D.contents devices.old }
+    ensures never_falls { D.faults devices.old ≤ D.faults devices.new }
+{
+    let mut bytes = vec![in alloc; 0; size as usize].map_err(|_| ReadDeviceError::NoMemory)?;
+    match fill(devices, name, &mut bytes) {
+        Ok(()) => Ok(bytes),
+        Err(DevError::Failed) => Err(ReadDeviceError::Failed),
+        Err(DevError::Missing) => Err(ReadDeviceError::Missing),
+    }
+}
+
+// Reads a device into a buffer of its size.
+fn fill<D: Devices>(devices: &mut D, name: &[u8], buffer: &mut [u8]) -> Result<(), DevError>
+    requires { HasSize (D.contents devices.old) name.now (length buffer.old) }
+    ensures content { OnOk result (HasContent (D.contents devices.old) name.now buffer.new) }
+    ensures missing { IsErrOf result DevError.Missing → HasNone (D.contents devices.old) name.now }
+    ensures failed { IsErrOf result DevError.Failed → Rose (D.faults devices.old) (D.faults devices.new) }
+    ensures same { D.contents devices.new ≡ D.contents devices.old }
+    ensures never_falls { D.faults devices.old ≤ D.faults devices.new }
+{
+    let mut done = 0;
+    while done < buffer.len() {
+        done += devices.read_at(name, done as u64, &mut buffer[done..])?;
+    }
+    Ok(())
+}

@@ -1,9 +1,0 @@
-use Rattle.std.proofs.Common.{◌/◌}
-use Rattle.dmv_tree.proofs.Heights.{AtLevel}
-use Rattle.dmv_tree.proofs.shape.layout.Given as goal
-
-abbrev pub invariant-loop-level : goal.invariant-loop-level
-invariant-loop-level l = AtLevel (l.fn.block_size / 32) l.fn.blocks l.levels l.level l.hash_blocks
-
-abbrev pub decreases-loop-level : goal.decreases-loop-level
-decreases-loop-level l = l.level

@@ -1,0 +1,110 @@
+ghost use Rattle.blk_device.specs.Contents.{HasNone};
+ghost use Rattle.dmv_volume.specs.Reading.{FailsAt, HasAtLeast, IsChecked, IsOfImage, OfBoth, answer_of, failing, held_path};
+ghost use Rattle.dmv_volume.specs.Table.{HasLimits};
+ghost use Rattle.hash_tree.specs.Shape.{IsHeight, blocks_above};
+ghost use Rattle.hash_tree.specs.Tree.{fan_out};
+ghost use Rattle.ipe_words.specs.Count.{Rose};
+ghost use Rattle.std.specs.Prelude.{◌≡◌, ◌+◌, ◌*◌, ◌<◌, ◌≤◌, ◌⊎◌, ℕ, [], length, replicate, take, IfOk, IsErrOf, OnErr, OnOk};
+
+use crate::reading::take_path;
+use crate::{BlockPath, Table};
+use blk_device::{Devices, VerityError};
+use dmv_tree::layout;
+use std::alloc::{AllocError, Global};
+use std::marker::Model;
+
+/// A verity volume: blocks are read through it from devices, and each is checked in the call that reads it.
+#[derive(Debug, Drop)]
+pub struct Volume {
+    table: Table,
+    levels: u8,
+    path: BlockPath,
+}
+
+impl Model for Volume {
+    ghost use Rattle.dmv_volume.specs.Reading.{Attached, IsAttached};
+
+    ghost Value = { Attached };
+
+    ghost view = { λ s. record { table = s.table; levels = s.levels; path = s.path.items } };
+
+    ghost invariant = { λ s. IsAttached s.table s.levels s.path };
+}
+
+impl Volume {
+    /// The volume of a table, with room for one path. It asks no device.
+    pub fn attach(alloc: Global, table: &Table) -> Result<Volume, AllocError>
+        ensures table { IfOk result (λ volume. volume.table ≡ table.now) }
+        ensures limits { IfOk result (λ volume. HasLimits volume.table) }
+        ensures height { IfOk result (λ volume.
+            IsHeight (fan_out volume.table.block_size) volume.table.blocks volume.levels) }
+        ensures path { IfOk result (λ volume. volume.path ≡ []) }
+    {
+        let size = table.block_size();
+        let levels = layout(table.blocks(), size).levels;
+        let path = BlockPath::new(alloc, size as usize, usize::from(levels) + 1)?;
+        let table = table.copy(alloc)?;
+        Ok(Volume {
+            table,
+            levels,
+            path,
+        })
+    }
+
+    /// Reads block `i` into `out`, which has the size of a block. The blocks of its path are taken from the devices in
+    /// this call, from the top level down to the data, and each is checked before the next one is taken.
+    ///
+    /// The error says which block was the first that failed, or that a device failed or isn't there. After an error
+    /// `out` has zeros.
+    pub fn read_block<D: Devices>(
+        &mut self,
+        dev: &mut D,
+        i: u64,
+        out: &mut [u8],
+    ) -> Result<(), VerityError>
+        requires block { i < self.old.table.blocks }
+        requires one_block { length out.old ≡ self.old.table.block_size }
+        requires has_data { HasAtLeast (D.contents dev.old) self.old.table.device
+            (self.old.table.blocks * self.old.table.block_size) }
+        requires has_hashes { HasAtLeast (D.contents dev.old) self.old.table.hash_device ((self.old.table.hash_start
+            + blocks_above (fan_out self.old.table.block_size) self.old.table.blocks self.old.levels)
+            * self.old.table.block_size) }
+
+        // No block of the path fails, and the last is in `out`: that of each image with the declared root.
+        ensures ok { OnOk result (IsChecked self.old.table self.old.levels i self.new.path out.new) }
+        ensures image { OnOk result (IsOfImage self.old.table i self.new.path out.new) }
+
+        // The last block of the path that was read is the first that fails.
+        ensures corrupt { (level b : ℕ) → IsErrOf result (VerityError.Corrupt level b) →
+            FailsAt self.old.table self.old.levels i self.new.path level b }
+
+        // A device answered so.
+        ensures missing { IsErrOf result VerityError.Missing → HasNone (D.contents dev.old) self.old.table.device
+            ⊎ HasNone (D.contents dev.old) self.old.table.hash_device }
+        ensures failed { IsErrOf result VerityError.DeviceFault → Rose (D.faults dev.old) (D.faults dev.new) }
+
+        // The path is the front of the one that the devices hold, and unless one failed the answer is what that says.
+        ensures held { OfBoth (D.contents dev.old) self.old.table (λ bytes hashes. self.new.path
+            ≡ take (length self.new.path) (held_path self.old.table self.old.levels bytes hashes i)) }
+        ensures answer { OfBoth (D.contents dev.old) self.old.table (λ bytes hashes.
+            (IsErrOf result VerityError.DeviceFault → ⊥) →
+            result ≡ answer_of (failing self.old.table i (held_path self.old.table self.old.levels bytes hashes i))) }
+        ensures cleared { OnErr result (out.new ≡ replicate (length out.old) 0) }
+        ensures same { D.contents dev.new ≡ D.contents dev.old }
+        ensures never_falls { D.faults dev.old ≤ D.faults dev.new }
+        ensures kept { self.new ≡ record self.old { path = self.new.path } }
+    {
+        let read = take_path(&self.table, self.levels, &mut self.path, dev, i, out);
+        if read.is_err() {
+            out.fill(0);
+        }
+        read
+    }
+
+    /// The path of the last call, as far as it was read.
+    pub fn path(&self) -> &BlockPath
+        ensures { result.now.items ≡ self.now.path }
+    {
+        &self.path
+    }
+}

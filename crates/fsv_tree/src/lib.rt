@@ -1,0 +1,15 @@
+//! fs-verity: descriptors, file digests, and the measuring of a file in memory.
+//!
+//! [`Descriptor`] is read from its 256 bytes and written to them, and [`measure_bytes`] hashes a file into its
+//! descriptor and its stored hash tree. The hash algorithm is SHA-256.
+#![tactic(auto)]
+
+mod descriptor;
+mod measure;
+mod rows;
+
+pub use descriptor::{BadDescriptor, Descriptor};
+pub use measure::{Measured, measure_bytes};
+
+#[cfg(test)]
+mod tests;

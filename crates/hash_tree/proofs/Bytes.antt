@@ -1,0 +1,237 @@
+-- Bytes of levels.
+use Rattle.std.proofs.Common.{◌≡◌, ℕ, ◌+◌, ◌-◌, ◌*◌, ◌/◌, ◌<◌, ◌≤◌, min, List, [], ◌∷◌, ◌++◌, length, map, take, drop, replicate, ap, refl, sym, ◌∙◌, arith, inl, inr}
+use Rattle.std.specs.Int.{div_ceil}
+use Rattle.std.specs.List.{concat}
+use Rattle.std.specs.Prelude.{All}
+use Rattle.std.proofs.lemmas.Bool.{cases_lt}
+use Rattle.std.proofs.lemmas.List.{append-nil, append_assoc, length-append, length-map, take_at, drop_at, take_all, drop_all}
+use Rattle.std.proofs.lemmas.List.Elements.{All-head, All-tail}
+use Rattle.std.proofs.lemmas.Nat.{div-add-mod', mod_below, div-mul-add, mul-le}
+use Rattle.std.proofs.lemmas.Grind.{div_ceil_times}
+use Rattle.std.proofs.Math.Nat.{div-div-eq-div-mul}
+use Rattle.hash_tree.specs.Chunks.{chunks}
+use Rattle.hash_tree.specs.Shape.{IsHashBlockSize}
+use Rattle.hash_tree.specs.Tree.{salted, filled, data_blocks, fan_out, hash_blocks, root, stored}
+use Rattle.hash_tree.proofs.Numbers.{div_ceil_is, div_ceil_less, div_ceil_some}
+use Rattle.hash_tree.proofs.Groups.{chunks_none, chunks_more, chunks_one, length-chunks, chunks-concat}
+use Rattle.hash_tree.proofs.HashBlocks.{digests_whole, length-concat_same, length-hash_blocks, hash_blocks_sizes, concat-hash_blocks}
+use Rattle.hash_tree.proofs.Levels.{root_one, root_more, stored_one, stored_more}
+
+-- a size of hash blocks, as a number
+pub at_least : (size : ℕ) → IsHashBlockSize size → 128 ≤ size
+at_least size is =
+    let even : fan_out size * 32 ≡ size = is.even in
+    let wide : 4 ≤ fan_out size = is.wide in
+    omega arith
+
+-- a whole block is full already
+pub filled_whole : (size : ℕ) (block : List ℕ) → length block ≡ size → filled size block ≡ block
+unfolding filled
+filled_whole size block whole =
+    let room : size - length block ≡ 0 = omega arith in
+    ap (λ (x : ℕ). block ++ replicate x 0) room ∙ append-nil block
+
+-- a block that is copied, and then made as long as the size
+pub resized : (size count : ℕ) (block items : List ℕ) → items ≡ block → count ≡ length block → length block ≤ size →
+    take size items ++ replicate (size - count) 0 ≡ filled size block
+unfolding filled
+resized size count block items same number within =
+    ap (λ xs. take size xs ++ replicate (size - count) 0) same
+    ∙ (ap (λ xs. xs ++ replicate (size - count) 0) (take_all size block within)
+    ∙ ap (λ (x : ℕ). block ++ replicate (size - x) 0) number)
+
+pub all_filled : (size : ℕ) (blocks : List (List ℕ)) → All (λ block. length block ≡ size) blocks →
+    map (filled size) blocks ≡ blocks
+all_filled size [] all = refl
+all_filled size (block ∷ blocks) all =
+    let here = filled_whole size block (All-head (λ b. length b ≡ size) block blocks all) in
+    let more = all_filled size blocks (All-tail (λ b. length b ≡ size) block blocks all) in
+    ap (λ xs. xs ∷ map (filled size) blocks) here ∙ ap (λ xs. block ∷ xs) more
+
+-- bytes that are whole blocks are cut into them
+pub whole_blocks : (size : ℕ) (bytes : List ℕ) → All (λ block. length block ≡ size) (chunks size bytes) →
+    data_blocks size bytes ≡ chunks size bytes
+unfolding data_blocks
+whole_blocks size bytes all = all_filled size (chunks size bytes) all
+
+-- the blocks of bytes, one by one
+pub data_blocks_none : (size : ℕ) (bytes : List ℕ) → 0 < size → length bytes ≡ 0 → data_blocks size bytes ≡ []
+unfolding data_blocks
+data_blocks_none size bytes positive none = ap (λ xs. map (filled size) xs) (chunks_none size bytes positive none)
+
+pub data_blocks_more : (size : ℕ) (bytes : List ℕ) → 0 < size → 0 < length bytes →
+    data_blocks size bytes ≡ filled size (take size bytes) ∷ data_blocks size (drop size bytes)
+unfolding data_blocks
+data_blocks_more size bytes positive some = ap (λ xs. map (filled size) xs) (chunks_more size bytes positive some)
+
+pub data_blocks_one : (size : ℕ) (bytes : List ℕ) → 0 < length bytes → length bytes ≤ size →
+    data_blocks size bytes ≡ filled size bytes ∷ []
+unfolding data_blocks
+data_blocks_one size bytes some within = ap (λ xs. map (filled size) xs) (chunks_one size bytes some within)
+
+pub data_blocks_whole : (size : ℕ) (bytes : List ℕ) (whole : List (List ℕ)) → 0 < size → bytes ≡ concat whole →
+    All (λ block. length block ≡ size) whole → data_blocks size bytes ≡ whole
+unfolding data_blocks
+data_blocks_whole size bytes whole positive is all =
+    ap (λ xs. map (filled size) (chunks size xs)) is
+    ∙ (ap (λ xs. map (filled size) xs) (chunks-concat size whole positive all) ∙ all_filled size whole all)
+
+pub length-data_blocks : (size : ℕ) (bytes : List ℕ) → length (data_blocks size bytes) ≡ div_ceil (length bytes) size
+unfolding data_blocks
+length-data_blocks size bytes = length-map (chunks size bytes) (filled size) ∙ length-chunks size bytes
+
+-- the blocks whose digests are done, and the rest
+pub record Hashing (size : ℕ) (salt level done rest : List ℕ) : Type 0 where
+  pub hashed : done ++ concat (map (salted salt) (data_blocks size rest)) ≡ concat (map (salted salt) (data_blocks size level))
+
+-- the first chunk of bytes, and what is behind it
+only_chunk : (size : ℕ) (block others : List ℕ) → length others ≡ 0 → length block < size →
+    (take size (block ++ others) ≡ block) × (drop size (block ++ others) ≡ others)
+only_chunk size block [] none below =
+    let same = append-nil block in (
+      ap (λ xs. take size xs) same ∙ take_all size block (omega arith),
+      ap (λ xs. drop size xs) same ∙ drop_all size block (omega arith),
+    )
+only_chunk size block (x ∷ xs) none below = absurd (omega arith)
+
+first_chunk : (size : ℕ) (block others : List ℕ) → length block ≡ min size (length (block ++ others)) →
+    (take size (block ++ others) ≡ block) × (drop size (block ++ others) ≡ others)
+first_chunk size block others short =
+    let sum : length (block ++ others) ≡ length block + length others = length-append block others in
+    elim (cases_lt (length block) size) [
+      | inr full ↦ (take_at block others size (omega arith), drop_at block others size (omega arith))
+      | inl below ↦ only_chunk size block others (omega arith) below
+    ]
+
+-- one more block
+pub hashing_more : (size : ℕ) (salt level done rest block others : List ℕ) → 0 < size →
+    Hashing size salt level done rest →
+    rest ≡ block ++ others → length block ≡ min size (length rest) → 0 < length rest →
+    Hashing size salt level (done ++ salted salt (filled size block)) others
+hashing_more size salt level done rest block others positive before parts short some =
+    let count : length rest ≡ length (block ++ others) = ap length parts in
+    let cuts = first_chunk size block others (short ∙ ap (λ (x : ℕ). min size x) count) in
+    let cut : data_blocks size rest ≡ filled size block ∷ data_blocks size others =
+    ap (λ xs. data_blocks size xs) parts
+    ∙ (data_blocks_more size (block ++ others) positive (omega arith)
+    ∙ (ap (λ xs. filled size xs ∷ data_blocks size (drop size (block ++ others))) cuts.0
+    ∙ ap (λ xs. filled size block ∷ data_blocks size xs) cuts.1)) in
+    record {
+      hashed = append_assoc done (salted salt (filled size block)) (concat (map (salted salt) (data_blocks size others)))
+          ∙ (ap (λ blocks. done ++ concat (map (salted salt) blocks)) (sym cut) ∙ before.hashed);
+    }
+
+-- none left
+pub hashing_done : (size : ℕ) (salt level done rest : List ℕ) → 0 < size → Hashing size salt level done rest →
+    length rest ≡ 0 →
+    done ≡ concat (map (salted salt) (data_blocks size level))
+hashing_done size salt level done rest positive before none =
+    sym (append-nil done)
+    ∙ (ap (λ blocks. done ++ concat (map (salted salt) blocks)) (sym (data_blocks_none size rest positive none))
+    ∙ before.hashed)
+
+-- the digests of n blocks fill as many blocks as there are groups of them
+scaled : (n h size : ℕ) → 0 < n → 0 < h → h * 32 ≡ size → div_ceil (n * 32) size ≡ div_ceil n h
+scaled n h size some positive same =
+    let first = div_ceil_is (n * 32) size (omega arith) (omega arith) in
+    let second = div_ceil_is n h positive some in
+    let turned : size ≡ 32 * h = omega arith in
+    let before : n * 32 - 1 ≡ (n - 1) * 32 + 31 = omega arith in
+    let quotient : (n * 32 - 1) / 32 ≡ n - 1 = ap (λ (x : ℕ). x / 32) before
+    ∙ div-mul-add (n - 1) 32 31 (omega arith) in
+    let both : (n * 32 - 1) / size ≡ (n - 1) / h =
+    ap (λ (x : ℕ). (n * 32 - 1) / x) turned ∙ (sym (div-div-eq-div-mul (n * 32 - 1) 32 h)
+    ∙ ap (λ (x : ℕ). x / h) quotient) in
+    omega (arith, first, second, both)
+
+-- digests that are filled up to whole blocks are the hash blocks
+pub hashed_level : (size : ℕ) (salt level done : List ℕ) (full : ℕ) → IsHashBlockSize size → 0 < length level →
+    done ≡ concat (map (salted salt) (data_blocks size level)) →
+    full ≡ div_ceil (div_ceil (length level) size * 32) size * size →
+    take full done ++ replicate (full - length done) 0 ≡ concat (hash_blocks size salt (data_blocks size level))
+hashed_level size salt level done full sizes any is room_is =
+    let h = fan_out size in
+    let blocks = data_blocks size level in
+    let n = div_ceil (length level) size in
+    let positive : 0 < size = omega (arith, at_least size sizes) in
+    let wide : 4 ≤ h = sizes.wide in
+    let wide_enough : 0 < h = omega arith in
+    let same : h * 32 ≡ size = sizes.even in
+    let some : 0 < n = div_ceil_some (length level) size positive any in
+    let count : length blocks ≡ n = length-data_blocks size level in
+    let digests : length (map (salted salt) blocks) ≡ n = length-map blocks (salted salt) ∙ count in
+    let bytes : length done ≡ n * 32 = ap length is
+    ∙ (length-concat_same 32 (map (salted salt) blocks) (digests_whole salt blocks)
+    ∙ ap (λ (x : ℕ). x * 32) digests) in
+    let ceiling = scaled n h size some wide_enough same in
+    let room : full ≡ div_ceil n h * size = room_is ∙ ap (λ (x : ℕ). x * size) ceiling in
+    let fits : n * 32 ≤ full = omega (arith, room_is, (div_ceil_times (n * 32) size positive).0) in
+    let target = concat-hash_blocks size salt blocks wide_enough same in
+    let zeros : full - length done ≡ div_ceil (length blocks) h * size - length blocks * 32 =
+    ap (λ (x : ℕ). full - x) bytes
+    ∙ (ap (λ (x : ℕ). x - n * 32) room ∙ ap (λ (x : ℕ). div_ceil x h * size - x * 32) (sym count)) in
+    ap (λ xs. xs ++ replicate (full - length done) 0) (take_all full done (omega arith))
+    ∙ (ap (λ xs. xs ++ replicate (full - length done) 0) is
+    ∙ (ap (λ (x : ℕ). concat (map (salted salt) blocks) ++ replicate x 0) zeros ∙ sym target))
+
+-- the level above two blocks and more
+pub record IsAbove (size : ℕ) (salt level above : List ℕ) : Type 0 where
+  pub some : 0 < length above
+  pub fewer : length above < length level
+  pub root_is : root size salt (data_blocks size level) ≡ root size salt (data_blocks size above)
+  pub stored_is : stored size salt (data_blocks size level) ≡ stored size salt (data_blocks size above) ++ above
+
+pub level_above : (size : ℕ) (salt level above : List ℕ) → IsHashBlockSize size → size < length level →
+    above ≡ concat (hash_blocks size salt (data_blocks size level)) → IsAbove size salt level above
+level_above size salt level above sizes more is =
+    let h = fan_out size in
+    let blocks = data_blocks size level in
+    let n = div_ceil (length level) size in
+    let next = hash_blocks size salt blocks in
+    let positive : 0 < size = omega (arith, at_least size sizes) in
+    let wide : 4 ≤ h = sizes.wide in
+    let many : 2 ≤ h = omega arith in
+    let ceiling : n ≡ (length level - 1) / size + 1 = div_ceil_is (length level) size positive (omega arith) in
+    let split = div-add-mod' (length level - 1) size in
+    let quotient : 1 ≤ (length level - 1) / size = elim (cases_lt 0 ((length level - 1) / size)) [
+      | inl positive_one ↦ positive_one
+      | inr none ↦
+          let product : (length level - 1) / size * size ≡ 0 * size = ap (λ (x : ℕ). x * size) (omega arith) in
+          let low = mod_below (length level - 1) size positive in
+          absurd (omega (arith, split, low))
+    ] in
+    let two_of : 2 ≤ n = omega arith in
+    let count : length blocks ≡ n = length-data_blocks size level in
+    let two : 2 ≤ length blocks = omega arith in
+    let few : length next ≡ div_ceil n h = length-hash_blocks size salt blocks
+    ∙ ap (λ (x : ℕ). div_ceil x h) count in
+    let less : length next < n = omega (arith, few, div_ceil_less n h many two_of) in
+    let not_none : 0 < length next = omega (arith, few, div_ceil_some n h (omega arith) (omega arith)) in
+    let bytes : length above ≡ length next * size =
+    ap length is ∙ length-concat_same size next (hash_blocks_sizes size salt blocks) in
+    let order : length next * size ≤ (length level - 1) / size * size =
+    mul-le (length next) size ((length level - 1) / size) size (omega arith) (omega arith) in
+    let least : 1 * size ≤ length next * size = mul-le 1 size (length next) size (omega arith) (omega arith) in
+    let cut : data_blocks size above ≡ next =
+    data_blocks_whole size above next positive is (hash_blocks_sizes size salt blocks) in
+    record {
+      some = omega arith;
+      fewer = omega (arith, split);
+      root_is = root_more size salt blocks many two ∙ ap (λ groups. root size salt groups) (sym cut);
+      stored_is = stored_more size salt blocks many two
+          ∙ (ap (λ groups. stored size salt groups ++ concat next) (sym cut)
+          ∙ ap (λ xs. stored size salt (data_blocks size above) ++ xs) (sym is));
+    }
+
+-- the level that is one block
+pub root_of_one : (size : ℕ) (salt level : List ℕ) → 0 < length level → length level ≤ size →
+    root size salt (data_blocks size level) ≡ salted salt (filled size level)
+root_of_one size salt level some within =
+    ap (λ groups. root size salt groups) (data_blocks_one size level some within)
+    ∙ root_one size salt (filled size level ∷ []) (omega arith)
+
+pub stored_of_one : (size : ℕ) (salt level : List ℕ) → 0 < length level → length level ≤ size →
+    stored size salt (data_blocks size level) ≡ []
+stored_of_one size salt level some within =
+    ap (λ groups. stored size salt groups) (data_blocks_one size level some within)
+    ∙ stored_one size salt (filled size level ∷ []) (omega arith)

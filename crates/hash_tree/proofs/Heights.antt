@@ -1,0 +1,90 @@
+-- The shape of a tree, level by level.
+use Rattle.std.proofs.Common.{◌≡◌, ℕ, suc, ◌+◌, ◌-◌, ◌/◌, ◌^◌, ◌<◌, ◌≤◌, ap, refl, sym, ◌∙◌, subst, arith, inl, inr}
+use Rattle.std.specs.Int.{div_ceil}
+use Rattle.std.proofs.lemmas.Bool.{cases_lt, cases_eq}
+use Rattle.std.proofs.lemmas.List.FromFn.{sum_by-map-range_with_len_more}
+use Rattle.std.proofs.lemmas.Nat.{le-div, mul-le}
+use Rattle.std.proofs.Math.Nat.{div-eq_of_lt, div-mul-le_self, pow-le-pow_left, pow-le-pow_right}
+use Rattle.hash_tree.specs.Shape.{IsHeight, level_blocks, blocks_above}
+use Rattle.hash_tree.proofs.Numbers.{div_ceil_is, div_ceil_power_then, div_ceil_by_one, power_some}
+
+-- a level of the tree over n blocks, where each hash block has h digests: its number, its blocks, and those from
+-- level 1 to it
+pub record AtLevel (h n k level above : ℕ) : Type 0 where
+  pub level_is : level ≡ level_blocks h n k
+  pub above_is : above ≡ blocks_above h n k
+  pub least : (fewer : ℕ) → fewer < k → 0 < (n - 1) / h ^ fewer
+  pub bound : above + level ≤ n
+
+pub at_first : (h n : ℕ) → 0 < n → AtLevel h n 0 n 0
+unfolding blocks_above
+at_first h n some = record {
+  level_is = sym (div_ceil_by_one n h some);
+  above_is = refl;
+  least = λ fewer below. absurd (omega arith);
+  bound = omega arith;
+}
+
+above_more : (h n k : ℕ) → blocks_above h n (k + 1) ≡ blocks_above h n k + level_blocks h n (k + 1)
+unfolding blocks_above
+above_more h n k = sum_by-map-range_with_len_more (λ x. x) (level_blocks h n) 1 k (k + 1) (omega arith)
+
+least_more : (h n k : ℕ) → ((fewer : ℕ) → fewer < k → 0 < (n - 1) / h ^ fewer) → 0 < (n - 1) / h ^ k →
+    (fewer : ℕ) → fewer < k + 1 → 0 < (n - 1) / h ^ fewer
+least_more h n k least here fewer below = elim (cases_eq fewer k) [
+  | inl same ↦ subst (λ (x : ℕ). 0 < (n - 1) / h ^ x) (sym same) here
+  | inr other ↦ least fewer (omega arith)
+]
+
+-- above a level of two blocks and more the quotient isn't 0 yet
+pub not_yet : (h n k level : ℕ) → 0 < h → 0 < n → level ≡ level_blocks h n k → 1 < level → 0 < (n - 1) / h ^ k
+not_yet h n k level positive some is more = omega (arith, div_ceil_is n (h ^ k) (power_some h k positive) some)
+
+-- a level over at least four blocks' worth has at most half as many
+halved : (h level next : ℕ) → 4 ≤ h → 1 < level → next ≡ div_ceil level h → next + next ≤ level
+halved h level next wide more is =
+    let ceiling = div_ceil_is level h (omega arith) (omega arith) in
+    let quarter : (level - 1) / h ≤ (level - 1) / 4 =
+    le-div ((level - 1) / h) (level - 1) 4 (omega arith) (omega (
+      arith,
+      div-mul-le_self (level - 1) h,
+      mul-le ((level - 1) / h) 4 ((level - 1) / h) h (omega arith) wide,
+    )) in
+    omega (arith, ceiling)
+
+pub at_next : (h n k level above next : ℕ) → 4 ≤ h → 0 < n → AtLevel h n k level above → 1 < level →
+    next ≡ div_ceil level h →
+    AtLevel h n (k + 1) next (above + next)
+at_next h n k level above next wide some at more is =
+    let step : suc k ≡ k + 1 = omega arith in
+    let next_is : next ≡ level_blocks h n (k + 1) = is ∙ (ap (λ (x : ℕ). div_ceil x h) at.level_is
+    ∙ (div_ceil_power_then n h k (omega arith) some ∙ ap (λ (x : ℕ). div_ceil n (h ^ x)) step)) in
+    let half : next + next ≤ level = halved h level next wide more is in
+    let above_is : above ≡ blocks_above h n k = at.above_is in
+    let bound : above + level ≤ n = at.bound in
+    record {
+      level_is = next_is;
+      above_is = omega (arith, above_more h n k);
+      least = least_more h n k at.least (not_yet h n k level (omega arith) some at.level_is more);
+      bound = omega arith;
+    }
+
+-- the last level
+pub at_last : (h n k level above : ℕ) → 0 < h → 0 < n → AtLevel h n k level above → level ≤ 1 → IsHeight h n k
+at_last h n k level above positive some at one = record {
+  holds_all =
+      let is : level ≡ level_blocks h n k = at.level_is in
+      omega (arith, div_ceil_is n (h ^ k) (power_some h k positive) some);
+  least = at.least;
+}
+
+-- 16,777,216 blocks have few levels
+pub few_levels : (h n k : ℕ) → 2 ≤ h → n ≤ 16777216 → 0 < (n - 1) / h ^ k → k < 24
+few_levels h n k many few some = elim (cases_lt k 24) [
+  | inl below ↦ below
+  | inr from ↦
+      let twos : 2 ^ 24 ≤ 2 ^ k = pow-le-pow_right (omega arith) from in
+      let powers : 2 ^ k ≤ h ^ k = pow-le-pow_left many k in
+      let none : (n - 1) / h ^ k ≡ 0 = div-eq_of_lt (omega arith) in
+      absurd (omega arith)
+]

@@ -1,0 +1,153 @@
+ghost use Rattle.std.specs.Prelude.{◌≡◌, ◌≢◌, ◌≤◌, ◌↔◌, ◌&&◌, nat_le, false, None, Some, Option, List, ℕ, length, IfSome, IsTrue};
+ghost use Rattle.std.specs.List.{list_all};
+ghost use Rattle.ipe_words.specs.Count.{Rose};
+ghost use Rattle.dmv_tree.specs.Blocks.{is_block_size};
+ghost use Rattle.ipe_policy.specs.Words.{is_text, is_visible};
+ghost use Rattle.ipegate.specs.Words.{asks_devices, block_size_of, is_device, root_by, salt_of};
+ghost use Rattle.ipegate.specs.Words.{WritesDone, WritesRefused, WritesSome};
+
+use crate::root;
+use arrayvec::ArrayVec;
+use blk_device::Devices;
+use ipe_words::{Sink, Status};
+use std::alloc::Global;
+use std::marker::Model;
+
+// The salt of a tree.
+#[derive(Drop)]
+struct Salt {
+    bytes: ArrayVec<u8, 256>,
+}
+
+impl Model for Salt {
+    ghost use Rattle.std.specs.Prelude.{List, ℕ, ◌≤◌, length};
+
+    ghost Value = { List ℕ };
+
+    ghost view = { λ s. s.bytes.items };
+
+    ghost invariant = { λ s. length s.bytes.items ≤ 256 };
+}
+
+impl Salt {
+    fn as_slice(&self) -> &[u8]
+        ensures bytes { result.now ≡ self.now }
+        ensures few { length self.now ≤ 256 }
+    {
+        self.bytes.as_slice()
+    }
+}
+
+/// What `root` writes of a device, by its three words: the size of a block, the salt and the device.
+pub(crate) fn root_by_words<K: Sink, D: Devices>(
+    alloc: Global,
+    block_size: &[u8],
+    salt: &[u8],
+    device: &[u8],
+    sink: &mut K,
+    devices: &mut D,
+) -> Status
+    ensures usage { (result ≡ Status.Usage) ↔ (root_by block_size.now salt.now device.now ≡ None) }
+    ensures idle { result ≡ Status.Usage → (sink.new ≡ sink.old) × (devices.new ≡ devices.old) }
+    ensures devices_stay { asks_devices (root_by block_size.now salt.now device.now) ≡ false →
+        devices.new ≡ devices.old }
+    ensures done { result ≡ Status.Done → (input : Option (List ℕ)) →
+        WritesDone (root_by block_size.now salt.now device.now)
+        input (D.contents devices.old) (K.written sink.old) (K.written sink.new) }
+    ensures refused { result ≡ Status.Refused → (input : Option (List ℕ)) →
+        WritesRefused (root_by block_size.now salt.now device.now)
+        input (D.contents devices.old) (K.written sink.old) (K.written sink.new) }
+    ensures device_fault { result ≡ Status.DeviceFault → Rose (D.faults devices.old) (D.faults devices.new) }
+    ensures write_fault { result ≡ Status.WriteFault → Rose (K.faults sink.old) (K.faults sink.new) }
+    ensures write_prefix { result ≡ Status.WriteFault → (input : Option (List ℕ)) →
+        WritesSome (root_by block_size.now salt.now device.now)
+        input (D.contents devices.old) (K.written sink.old) (K.written sink.new) }
+    ensures unread { result ≡ Status.DeviceFault → sink.new ≡ sink.old }
+    ensures no_memory { result ≡ Status.NoMemory → sink.new ≡ sink.old }
+    ensures no_other { (result ≢ Status.No) × (result ≢ Status.ReadFault) }
+    ensures same { D.contents devices.new ≡ D.contents devices.old }
+{
+    let Some(block_size) = block_size_of(block_size) else {
+        return Status::Usage;
+    };
+    let Some(salt) = salt_of(salt) else {
+        return Status::Usage;
+    };
+    if !is_device(device) {
+        return Status::Usage;
+    }
+    root(alloc, block_size, salt.as_slice(), device, sink, devices)
+}
+
+fn is_text(text: &[u8], word: &[u8]) -> bool
+    ensures { result ≡ is_text text.now word.now }
+{
+    word == text
+}
+
+fn block_size_of(word: &[u8]) -> Option<u32>
+    ensures size { result ≡ block_size_of word.now }
+    ensures rule { IfSome result (λ size. IsTrue (is_block_size size)) }
+{
+    if is_text(b"512", word) {
+        return Some(512);
+    }
+    if is_text(b"1024", word) {
+        return Some(1024);
+    }
+    if is_text(b"2048", word) {
+        return Some(2048);
+    }
+    if is_text(b"4096", word) {
+        return Some(4096);
+    }
+    None
+}
+
+fn salt_of(word: &[u8]) -> Option<Salt>
+    ensures { result ≡ salt_of word.now }
+{
+    if is_text(b"-", word) {
+        return Some(Salt { bytes: held(&[]) });
+    }
+    if word.len() < 2 || word.len() > 512 {
+        return None;
+    }
+    let mut buffer = [0u8; 256];
+    let bytes = &mut buffer[..word.len() / 2];
+    hex::decode_to_slice(word, bytes).ok()?;
+    Some(Salt { bytes: held(bytes) })
+}
+
+fn held(bytes: &[u8]) -> ArrayVec<u8, 256>
+    requires { length bytes.now ≤ 256 }
+    ensures { result.items ≡ bytes.now }
+{
+    let mut held = ArrayVec::new();
+    let _fits = held.try_extend_from_slice(bytes);
+    held
+}
+
+fn is_device(word: &[u8]) -> bool
+    ensures { result ≡ is_device word.now }
+{
+    has_length(word, 1, 255) && all_visible(word)
+}
+
+fn has_length(bytes: &[u8], low: usize, high: usize) -> bool
+    ensures { result ≡ (nat_le low (length bytes.now) && nat_le (length bytes.now) high) }
+{
+    low <= bytes.len() && bytes.len() <= high
+}
+
+fn all_visible(bytes: &[u8]) -> bool
+    ensures { result ≡ list_all is_visible bytes.now }
+{
+    bytes.iter().all(|byte| is_visible(*byte))
+}
+
+fn is_visible(byte: u8) -> bool
+    ensures { result ≡ is_visible byte }
+{
+    (0x21..=0x7E).contains(&byte)
+}
