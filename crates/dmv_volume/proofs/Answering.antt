@@ -25,7 +25,8 @@ length-path_below h all i (suc count) = ap suc (length-path_below h all i count)
 length-path : (size : ℕ) (salt : List ℕ) (image : List (List ℕ)) (i : ℕ) →
     length (path size salt image i) ≡ length (levels size salt image)
 unfolding path
-length-path size salt image i = length-path_below (fan_out size) (levels size salt image) i (length (levels size salt image))
+length-path size salt image i =
+    length-path_below (fan_out size) (levels size salt image) i (length (levels size salt image))
 
 -- a checked path ends with the block of each image that has the declared root, or shows two blocks that collide
 pub of_image : (table : TableParts) (height i : ℕ) (taken : List (List ℕ)) (block : List ℕ) →

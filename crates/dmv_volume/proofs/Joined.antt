@@ -1,5 +1,5 @@
 -- Blocks of one size, one after another.
-use Rattle.std.proofs.Common.{◌≡◌, ℕ, zero, suc, ◌+◌, ◌*◌, ◌<◌, ◌≤◌, List, [], ◌∷◌, ◌++◌, length, take, drop, get_or, ap, refl, sym, ◌∙◌, arith, vec_len}
+use Rattle.std.proofs.Common.{◌≡◌, ℕ, zero, suc, ◌+◌, ◌*◌, ◌<◌, ◌≤◌, List, [], ◌∷◌, ◌++◌, length, take, drop, get_or, ap, refl, sym, ◌∙◌, arith}
 use Rattle.std.proofs.lemmas.List.{length-append, length-drop, take-append-le, drop-append-le}
 use Rattle.std.proofs.lemmas.Nat.{mul-le}
 use Rattle.std.proofs.Math.Nat.{suc-mul}
@@ -31,7 +31,8 @@ abbrev pub path_of : List (List ℕ) → ℕ → ℕ → Blocks
 path_of items size room = record { items = items; size = size; room = room }
 
 pub same_path : (a b : List (List ℕ)) (s t r q : ℕ) → a ≡ b → s ≡ t → r ≡ q → path_of a s r ≡ path_of b t q
-same_path a b s t r q items size room = ap (λ x. path_of x s r) items ∙ (ap (λ x. path_of b x r) size ∙ ap (λ x. path_of b t x) room)
+same_path a b s t r q items size room =
+    ap (λ x. path_of x s r) items ∙ (ap (λ x. path_of b x r) size ∙ ap (λ x. path_of b t x) room)
 
 -- room for one more
 pub one_more : (count room size capacity : ℕ) → count < room → room * size ≤ capacity → count * size + size ≤ capacity

@@ -4,5 +4,6 @@ mod Joined
 mod Places
 mod Walking
 mod Heights
+pub mod Needs
 mod Answering
 mod Filling

@@ -1,5 +1,5 @@
 -- Where blocks stand on the devices.
-use Rattle.std.proofs.Common.{◌≡◌, ℕ, zero, suc, ◌+◌, ◌-◌, ◌*◌, ◌/◌, ◌^◌, ◌<◌, ◌≤◌, List, length, take, drop, Option, None, Some, ap, refl, sym, ◌∙◌, subst, arith}
+use Rattle.std.proofs.Common.{◌≡◌, ℕ, zero, suc, ◌+◌, ◌*◌, ◌/◌, ◌^◌, ◌<◌, ◌≤◌, List, length, take, drop, Option, None, Some, ap, sym, ◌∙◌, subst, arith}
 use Rattle.std.specs.Prelude.{IfSome}
 use Rattle.std.specs.Fork.{slice_chunk}
 use Rattle.std.proofs.lemmas.List.FromFn.{sum_by-map-range_with_len_more}
@@ -85,8 +85,8 @@ hash_held (Some items) table i start k at block count place is =
     (hash_of (content table.device items) (content table.hash_device items) table.block_size at block count is)
 
 -- the hash device holds the block of a level over block i
-pub hash_room : (told : Option Contents) (name : List ℕ) (h n i start level size at len : ℕ) → 0 < h → i < n → 0 < level →
-    at ≡ start + i / h ^ level → len ≡ size → HasAtLeast told name ((start + blocks_above h n level) * size) →
+pub hash_room : (told : Option Contents) (name : List ℕ) (h n i start level size at len : ℕ) →
+    0 < h → i < n → 0 < level → at ≡ start + i / h ^ level → len ≡ size → HasAtLeast told name ((start + blocks_above h n level) * size) →
     HasAtLeast told name (at * size + len)
 hash_room told name h n i start zero size at len positive inside above place one has = absurd (omega arith)
 hash_room told name h n i start (suc k) size at len positive inside above place one has =
@@ -108,4 +108,5 @@ pub hash_held_at : (told : Option Contents) (table : TableParts) (i start level 
     take (length block) (drop (at * table.block_size) all) ≡ block)) →
     OfBoth told table (λ bytes hashes. block ≡ held_block table bytes hashes i start level)
 hash_held_at told table i start zero at block count above place is = absurd (omega arith)
-hash_held_at told table i start (suc k) at block count above place is = hash_held told table i start k at block count place is
+hash_held_at told table i start (suc k) at block count above place is =
+    hash_held told table i start k at block count place is

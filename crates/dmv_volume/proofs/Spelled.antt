@@ -1,6 +1,6 @@
 -- What words say.
-use Rattle.std.proofs.Common.{◌≡◌, ℕ, ◌*◌, ◌%◌, ◌<◌, ◌≤◌, ◌^◌, ◌⊎◌, false, true, List, [], length, None, Some, Result, Ok, Err, ap, refl, sym, ◌∙◌, subst, arith, inl, inr}
-use Rattle.std.specs.Prelude.{IsTrue, MatchResult, cond}
+use Rattle.std.proofs.Common.{◌≡◌, ℕ, ◌*◌, ◌<◌, ◌≤◌, ◌^◌, ◌⊎◌, false, List, [], length, None, Some, Result, Ok, Err, ap, refl, sym, ◌∙◌, arith, inl, inr}
+use Rattle.std.specs.Prelude.{IsTrue, MatchResult}
 use Rattle.std.specs.Result.{result_ok}
 use Rattle.dmv_tree.specs.Blocks.{is_block_size}
 use Rattle.dmv_tree.proofs.Bytes.{at_most}

@@ -26,7 +26,8 @@ OfBoth told table P =
     IfSome told (λ items.
     IfSome (content table.device items) (λ bytes. IfSome (content table.hash_device items) (λ hashes. P bytes hashes)))
 
--- the block over block i at a level, as the devices hold it, where that level begins at block `start` of the hash device
+-- the block over block i at a level, as the devices hold it, where the level begins at block `start` of the hash
+-- device
 abbrev pub held_block : TableParts → List ℕ → List ℕ → ℕ → ℕ → ℕ → List ℕ
 held_block table bytes hashes i start zero = slice_chunk bytes table.block_size i
 held_block table bytes hashes i start (suc k) =

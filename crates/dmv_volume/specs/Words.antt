@@ -7,10 +7,11 @@ use Rattle.hex.specs.declared.error.FromHexError.{FromHexError}
 use Rattle.hex.specs.Hex.{decode_of, is_hex_digit}
 use Rattle.dmv_tree.specs.Blocks.{is_block_size}
 
--- a line is cut at each blank; an empty word is a word too
+-- the blank at which a line is cut
 abbrev pub is_blank : ℕ → Bool
 is_blank byte = byte == 32
 
+-- the words of a line: what stands between its blanks, and an empty word is one too
 abbrev pub words_of : List ℕ → List (List ℕ)
 words_of line = slice_split is_blank line
 
@@ -57,7 +58,7 @@ abbrev pub AreDigits : ℕ → ℕ → List ℕ → Type 0
 AreDigits low high word =
     (low ≤ length word) × (length word ≤ high) × (length word % 2 ≡ 0) × AllPass is_hex_digit word
 
--- no salt is a dash
+-- the word for no salt
 abbrev pub is_dash : List ℕ → Bool
 is_dash word = bytes_eq word (codes "-")
 
@@ -80,7 +81,7 @@ abbrev pub MeetsIts : List (List ℕ) → List ℕ → Option Rule → Type 0
 MeetsIts words word None = ⊥
 MeetsIts words word (Some rule) = Meets words word rule
 
--- the word of a number meets its rule; no rule allows an empty word, so a missing one never does
+-- the word of a number meets its rule; a word that is missing doesn't, where the words before it meet theirs
 abbrev pub WordFits : List (List ℕ) → ℕ → Type 0
 WordFits words number = MeetsIts words (word_at words number) (slice_get rules (number - 1))
 
@@ -101,10 +102,11 @@ pub record AreWhole (words : List (List ℕ)) : Type 0 where
   pub fit : WordsFit words (length words)
   pub at_end : IsTrue (may_end (length words))
 
--- no line is whole and has a first bad word, and no line has two
+-- no line that is whole has a first bad word
 abbrev pub WholeOrBad : Type 0
 WholeOrBad = (words : List (List ℕ)) (number : ℕ) → AreWhole words → IsFirstBad words number → ⊥
 
+-- no line has two first bad words
 abbrev pub OneFirstBad : Type 0
 OneFirstBad =
     (words : List (List ℕ)) (number other : ℕ) → IsFirstBad words number → IsFirstBad words other → number ≡ other

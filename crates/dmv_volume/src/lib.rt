@@ -13,3 +13,6 @@ mod words;
 pub use path::BlockPath;
 pub use table::{Table, TableError, lines_are_whole_or_have_one_bad_word};
 pub use volume::Volume;
+
+#[cfg(test)]
+mod tests;

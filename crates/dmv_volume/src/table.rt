@@ -5,7 +5,7 @@ ghost use Rattle.hash_tree.specs.Shape.{IsHeight, blocks_above};
 ghost use Rattle.hash_tree.specs.Tree.{fan_out};
 ghost use Rattle.hex.specs.Hex.{decode_of};
 ghost use Rattle.std.specs.Fmt.{decimal};
-ghost use Rattle.std.specs.Prelude.{◌≡◌, ◌≤◌, ◌==◌, ℕ, IsTrue, IfErr, IfOk, length};
+ghost use Rattle.std.specs.Prelude.{◌≡◌, ◌<◌, ◌≤◌, ◌==◌, ℕ, IsTrue, IfErr, IfOk, length};
 
 use crate::words::{block_size_of, is_name, number_of, root_of, salt_of, word_at, words_of};
 use dmv_tree::layout;
@@ -76,6 +76,7 @@ impl Table {
         Table::of_words(alloc, words.as_slice())
     }
 
+    // The table that these words say.
     fn of_words(alloc: Global, words: &[&[u8]]) -> Result<Table, TableError>
         ensures whole { IfOk result (λ table. AreWhole (seen words.now)) }
         ensures says { IfOk result (λ table. Say (seen words.now) table) }
@@ -181,8 +182,9 @@ impl Table {
 
     /// How many hash blocks there are, in all levels above the data.
     pub fn hash_blocks(&self) -> u64
-        ensures { (height : ℕ) → IsHeight (fan_out self.now.block_size) self.now.blocks height →
+        ensures value { (height : ℕ) → IsHeight (fan_out self.now.block_size) self.now.blocks height →
             result ≡ blocks_above (fan_out self.now.block_size) self.now.blocks height }
+        ensures fewer { result < self.now.blocks }
     {
         layout(self.blocks, self.block_size).hash_blocks
     }

@@ -86,8 +86,8 @@ pub(crate) fn root_of(word: &[u8]) -> Option<[u8; 32]>
 
 // The salt that a word says.
 pub(crate) fn salt_of(alloc: Global, word: &[u8]) -> Result<Option<Vec<u8>>, AllocError>
-    ensures some { IfOk result (λ found. IfSome found (λ salt. Meets [] word.now Salt × (salt_of word.now ≡ Ok salt.items)
-        × (length salt.items ≤ 256))) }
+    ensures some { IfOk result (λ found. IfSome found (λ salt. Meets [] word.now Salt
+        × (salt_of word.now ≡ Ok salt.items) × (length salt.items ≤ 256))) }
     ensures none { IfOk result (λ found. IfNone found (Meets [] word.now Salt → ⊥)) }
 {
     if is_dash(word) {

@@ -1,4 +1,4 @@
-use Rattle.std.proofs.Common.{◌≡◌, ℕ, ◌+◌, ◌*◌, ◌/◌, ◌^◌, ◌<◌, length, ap, refl, sym, ◌∙◌, subst, arith}
+use Rattle.std.proofs.Common.{◌≡◌, ℕ, ◌+◌, ◌*◌, ◌/◌, ◌^◌, length, ap, sym, ◌∙◌, subst, arith}
 use Rattle.hash_tree.specs.Tree.{fan_out}
 use Rattle.dmv_tree.proofs.Bytes.{wide}
 use Rattle.dmv_volume.specs.Reading.{HasAtLeast}
@@ -14,7 +14,8 @@ read_whole-requires-2-clause-held g c =
     ap (λ (x : ℕ). c.args.start + x) (c.over.ensures ∙ ap (λ (x : ℕ). c.args.i / (x / 32) ^ c.args.level) given) in
     let room = hash_room told c.args.table.now.hash_device (fan_out size) c.args.table.now.blocks c.args.i c.args.start
     c.args.level size (c.args.start + c.over.result) (length c.args.out.now)
-    (omega (arith, wide size c.block_size.ensures.limits.block_size)) c.requires.block (omega (arith, c.if-level-eq0.false))
+    (omega (arith, wide size c.block_size.ensures.limits.block_size)) c.requires.block
+    (omega (arith, c.if-level-eq0.false))
     place c.requires.size c.requires.has_hashes in
     subst (λ (x : ℕ). HasAtLeast told c.hash_device.result.now ((c.args.start + c.over.result) * x + length
     c.args.out.now)) (sym given)

@@ -1,4 +1,4 @@
-use Rattle.std.proofs.Common.{arith, sym}
+use Rattle.std.proofs.Common.{sym}
 use Rattle.dmv_volume.proofs.Spelled.{same_size}
 use Rattle.dmv_volume.proofs.words.block_size_of.Goals as goal
 

@@ -1,4 +1,4 @@
-use Rattle.std.proofs.Common.{length, ap, sym, ◌∙◌}
+use Rattle.std.proofs.Common.{length, ap}
 use Rattle.hash_tree.proofs.Groups.{chunks_none}
 use Rattle.dmv_volume.specs.Blocks.{Blocks}
 use Rattle.dmv_volume.proofs.Joined.{same_path}

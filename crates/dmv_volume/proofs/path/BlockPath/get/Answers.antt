@@ -1,4 +1,4 @@
-use Rattle.std.proofs.Common.{◌≡◌, ℕ, ◌+◌, ◌-◌, ◌*◌, List, [], length, take, drop, get_or, ap, sym, ◌∙◌, arith}
+use Rattle.std.proofs.Common.{◌≡◌, ℕ, ◌+◌, ◌-◌, ◌*◌, [], length, take, drop, get_or, ap, sym, ◌∙◌, arith}
 use Rattle.hash_tree.proofs.Groups.{whole_count}
 use Rattle.dmv_volume.specs.Blocks.{Blocks}
 use Rattle.dmv_volume.proofs.Joined.{block_is}

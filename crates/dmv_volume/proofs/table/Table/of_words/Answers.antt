@@ -1,5 +1,4 @@
-use Rattle.std.proofs.Common.{◌≡◌, rules, sym, ◌∙◌, subst, ap}
-use Rattle.dmv_volume.specs.Table.{Say}
+use Rattle.std.proofs.Common.{rules}
 use Rattle.dmv_volume.proofs.table.Table.of_words.Goals as goal
 
 pub returns-clause-says : goal.returns-clause-says

@@ -1,4 +1,4 @@
-use Rattle.std.proofs.Common.{rules, ◌≡◌, ◌≤◌, ◌<◌, ℕ, arith, ap, sym, ◌∙◌, subst}
+use Rattle.std.proofs.Common.{rules, ◌≡◌, ◌<◌, arith, sym, subst}
 use Rattle.std.specs.Prelude.{IsErrOf, OnOk}
 use Rattle.blk_device.specs.declared.devices.VerityError.TheVariants.{DeviceFault}
 use Rattle.dmv_tree.proofs.Bytes.{wide}
