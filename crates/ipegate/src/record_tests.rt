@@ -460,8 +460,8 @@ fn accesses_are_recorded(rt: HostRuntime) -> Result<(), Fail> {
 const HEAD: &str = "ipe-requests 1\nworkers 1\n";
 
 /// A file that loads one text of these lines behind a header and a default.
-fn loading(alloc: Global, line: &str, lines: u32) -> Result<String, AllocError> {
-    let count = lines + 2;
+fn loading(alloc: Global, line: &str, lines: u16) -> Result<String, AllocError> {
+    let count = u32::from(lines) + 2;
     let mut text = String::from_str(alloc, HEAD)?;
     text.push_str(format!(in alloc; "text w {count}\n")?.as_str())?;
     text.push_str("policy_name=w policy_version=1.0.0\nDEFAULT action=DENY\n")?;
