@@ -1,5 +1,5 @@
 -- The lines of audit records (after the records shown in kernel admin-guide/LSM/ipe.rst, without time stamps).
-use Rattle.std.specs.Prelude.{Bool, true, false, not, codes, List, ◌++◌, ℕ, Option, Some, None}
+use Rattle.std.specs.Prelude.{Bool, not, codes, List, ◌++◌, ℕ, Option, Some, None}
 use Rattle.std.specs.Borrow.{Bor}
 use Rattle.hex.specs.Hex.{encode_lower}
 use Rattle.std.specs.Fmt.{decimal}
@@ -11,13 +11,8 @@ use Rattle.ipe_policy.specs.declared.request.Hook.TheVariants.{BprmCheck, Mmap, 
 use Rattle.ipe_policy.specs.declared.request.Subject.{Subject}
 use Rattle.ipe_policy.specs.declared.request.Object.{Object}
 use Rattle.ipe_policy.specs.declared.request.Object.TheVariants.{NoFile, File}
-use Rattle.ipe_policy.specs.Spelling.{op_word, statement_text, version_text}
+use Rattle.ipe_policy.specs.Spelling.{bit_text, op_word, statement_text, version_text}
 use Rattle.ipe_audit.specs.declared.records.Brief.{Brief}
-
--- a truth value as a digit
-abbrev pub bit_text : Bool → List ℕ
-bit_text true = codes "1"
-bit_text false = codes "0"
 
 -- a policy's name, version and digest, each behind these bytes
 abbrev pub told : List ℕ → List ℕ → List ℕ → Brief → List ℕ

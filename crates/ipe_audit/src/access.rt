@@ -1,16 +1,15 @@
 ghost use Rattle.std.specs.Prelude.{◌≡◌, ◌++◌, codes, IfOk, List, ℕ, OnOk, Some};
 ghost use Rattle.std.specs.Fmt.{decimal};
 ghost use Rattle.ipe_policy.specs.declared.evaluation.Context.{Context};
-ghost use Rattle.ipe_policy.specs.Spelling.{op_word};
+ghost use Rattle.ipe_policy.specs.Spelling.{bit_text, op_word};
 ghost use Rattle.ipe_image.specs.Answer.{IsAnswer, IsHit};
 ghost use Rattle.ipe_image.specs.Decision.{deciding};
 ghost use Rattle.ipe_image.specs.Parts.{ImageParts};
 ghost use Rattle.ipe_image.specs.Reading.{image_in};
-ghost use Rattle.ipe_audit.specs.Records.{access_text, bit_text, decided_text, hook_word, object_text};
+ghost use Rattle.ipe_audit.specs.Records.{access_text, decided_text, hook_word, object_text};
 
-use crate::records::bit;
 use ipe_image::{Hit, rule_text};
-use ipe_policy::{Hook, Object, Op, Subject};
+use ipe_policy::{Hook, Object, Op, Subject, bit_text};
 use std::alloc::{AllocError, Global};
 
 fn hook_word(hook: Hook) -> &'static [u8]
@@ -57,7 +56,7 @@ fn append_switch(line: &mut Vec<u8>, enforce: bool) -> Result<(), AllocError>
     ensures { OnOk result (line.new.items ≡ line.old.items ++ codes " enforcing=" ++ bit_text enforce) }
 {
     line.extend_from_slice(b" enforcing=")?;
-    line.extend_from_slice(bit(enforce))
+    line.extend_from_slice(bit_text(enforce))
 }
 
 fn append_task(alloc: Global, line: &mut Vec<u8>, subject: &Subject) -> Result<(), AllocError>

@@ -1,7 +1,7 @@
 ghost use Rattle.std.specs.Prelude.{◌≡◌, ◌++◌, IfOk, OnOk, None};
-ghost use Rattle.ipe_audit.specs.Records.{activation_text, bit_text, enforce_text, load_text, new_text, old_text, seen, told};
+ghost use Rattle.ipe_audit.specs.Records.{activation_text, enforce_text, load_text, new_text, old_text, seen, told};
 
-use ipe_policy::{Name, Version};
+use ipe_policy::{Name, Version, bit_text};
 use std::alloc::{AllocError, Global};
 
 /// What records tell of a policy: its name, its version and the SHA-256 of its text.
@@ -102,21 +102,14 @@ pub fn activation_line(
     Ok(line)
 }
 
-// A truth value as a digit.
-pub fn bit(on: bool) -> &'static [u8]
-    ensures { result.now ≡ bit_text on }
-{
-    if on { b"1" } else { b"0" }
-}
-
 /// The record of a change of the switch enforce to this value, of type 1404, without an end of line.
 pub fn enforce_line(alloc: Global, enforce: bool) -> Result<Vec<u8>, AllocError>
     ensures { IfOk result (λ line. line.items ≡ enforce_text enforce) }
 {
     let mut line = b"type=1404 enforcing=".to_vec(alloc)?;
-    line.extend_from_slice(bit(enforce))?;
+    line.extend_from_slice(bit_text(enforce))?;
     line.extend_from_slice(b" old_enforcing=")?;
-    line.extend_from_slice(bit(!enforce))?;
+    line.extend_from_slice(bit_text(!enforce))?;
     line.extend_from_slice(
         b" auid=4294967295 ses=4294967295 enabled=1 old-enabled=1 lsm=ipe res=1",
     )?;

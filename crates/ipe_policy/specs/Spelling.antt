@@ -37,6 +37,11 @@ abbrev pub truth_word : Bool → List ℕ
 truth_word true = codes "TRUE"
 truth_word false = codes "FALSE"
 
+-- a truth value as a digit
+abbrev pub bit_text : Bool → List ℕ
+bit_text true = codes "1"
+bit_text false = codes "0"
+
 -- ALG:HEX
 abbrev pub digest_word : Digest → List ℕ
 digest_word digest = digest.alg ++ codes ":" ++ encode_lower digest.bytes

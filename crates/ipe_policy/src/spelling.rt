@@ -1,6 +1,6 @@
 ghost use Rattle.std.specs.Prelude.{◌≡◌, ◌++◌, [], ◌∷◌, IfOk, OnOk};
 ghost use Rattle.std.specs.List.{flat_map};
-ghost use Rattle.ipe_policy.specs.Spelling.{action_token, digest_word, header_text, op_token, policy_text, property_token, statement_text, truth_word, version_text};
+ghost use Rattle.ipe_policy.specs.Spelling.{action_token, bit_text, digest_word, header_text, op_token, policy_text, property_token, statement_text, truth_word, version_text};
 
 use crate::{Action, Digest, Name, Op, Policy, Property, Statement, Version};
 use std::alloc::{AllocError, Global};
@@ -136,6 +136,13 @@ fn append_header(
     text.extend_from_slice(name.as_slice())?;
     text.extend_from_slice(b" policy_version=")?;
     append_version(alloc, text, version)
+}
+
+/// A truth value as a digit, `1` or `0`.
+pub fn bit_text(on: bool) -> &'static [u8]
+    ensures { result.now ≡ bit_text on }
+{
+    if on { b"1" } else { b"0" }
 }
 
 /// A statement in its one spelling, without an end of line.
