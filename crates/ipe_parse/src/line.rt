@@ -1,10 +1,11 @@
-ghost use Rattle.std.specs.Prelude.{◌≡◌, ◌-◌, ◌≤◌, IfOk, length, take, vec_len};
+ghost use Rattle.std.specs.Prelude.{◌≡◌, ◌-◌, ◌≤◌, codes, IfOk, length, take, vec_len};
+ghost use Rattle.ipe_policy.specs.Words.{is_text};
 ghost use Rattle.ipe_parse.specs.Tokens.{default_of, last_action, lone_action, properties_of, rule_of_line, statement_of};
 ghost use Rattle.ipe_parse.specs.Lines.{LineGives, words};
 
 use crate::BadKind;
 use crate::line_error::LineError;
-use crate::token::{action_named, behind, is_text, op_named, op_of, property_of};
+use crate::token::{action_named, behind, op_named, op_of, property_of};
 use ipe_policy::{Action, Properties, Property, Statement};
 use std::alloc::Global;
 
@@ -86,6 +87,12 @@ fn rule_of_line(alloc: Global, first: &[u8], others: &[&[u8]]) -> Result<Stateme
     Ok(Statement::Rule { op, props, action })
 }
 
+fn is_default(word: &[u8]) -> bool
+    ensures { result ≡ is_text (codes "DEFAULT") word.now }
+{
+    word == b"DEFAULT".as_slice()
+}
+
 /// The statement of a line, but for what the lines before it say.
 pub(crate) fn statement_of(alloc: Global, tokens: &[&[u8]]) -> Result<Statement, LineError>
     ensures { LineGives (λ statement. statement) result (statement_of (words tokens.now)) }
@@ -93,7 +100,7 @@ pub(crate) fn statement_of(alloc: Global, tokens: &[&[u8]]) -> Result<Statement,
     let [first, others @ ..] = tokens else {
         return Err(LineError::Bad(BadKind::BadOp));
     };
-    if is_text(b"DEFAULT", first) {
+    if is_default(first) {
         Ok(default_of(others)?)
     } else {
         rule_of_line(alloc, first, others)

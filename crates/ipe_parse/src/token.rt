@@ -1,17 +1,10 @@
 ghost use Rattle.std.specs.Prelude.{◌≡◌, Some, None, length, drop, position, if◌then◌else◌, ◌==◌};
 ghost use Rattle.std.specs.Option.{option_copied};
 ghost use Rattle.std.specs.List.{after_first, before_first};
-ghost use Rattle.ipe_policy.specs.Words.{is_text};
 ghost use Rattle.ipe_parse.specs.Tokens.{action_named, begins, digest_of, digest_property_of, hex_bytes, is_colon, op_named, op_of, property_of, truth_property_of};
 
 use crate::BadKind;
 use ipe_policy::{Action, AlgName, Digest, DigestBytes, Op, Property};
-
-pub(crate) fn is_text(text: &[u8], bytes: &[u8]) -> bool
-    ensures { result ≡ is_text text.now bytes.now }
-{
-    bytes == text
-}
 
 // What stands behind a prefix of a token.
 pub(crate) fn behind<'a>(prefix: &[u8], token: &'a [u8]) -> Option<&'a [u8]>
@@ -24,25 +17,25 @@ pub(crate) fn behind<'a>(prefix: &[u8], token: &'a [u8]) -> Option<&'a [u8]>
 pub(crate) fn op_named(word: &[u8]) -> Option<Op>
     ensures { result ≡ op_named word.now }
 {
-    if is_text(b"EXECUTE", word) {
+    if word == b"EXECUTE".as_slice() {
         return Some(Op::Execute);
     }
-    if is_text(b"FIRMWARE", word) {
+    if word == b"FIRMWARE".as_slice() {
         return Some(Op::Firmware);
     }
-    if is_text(b"KMODULE", word) {
+    if word == b"KMODULE".as_slice() {
         return Some(Op::Kmodule);
     }
-    if is_text(b"KEXEC_IMAGE", word) {
+    if word == b"KEXEC_IMAGE".as_slice() {
         return Some(Op::KexecImage);
     }
-    if is_text(b"KEXEC_INITRAMFS", word) {
+    if word == b"KEXEC_INITRAMFS".as_slice() {
         return Some(Op::KexecInitramfs);
     }
-    if is_text(b"POLICY", word) {
+    if word == b"POLICY".as_slice() {
         return Some(Op::Policy);
     }
-    if is_text(b"X509_CERT", word) {
+    if word == b"X509_CERT".as_slice() {
         return Some(Op::X509Cert);
     }
     None
@@ -57,10 +50,10 @@ pub(crate) fn op_of(token: &[u8]) -> Option<Op>
 pub(crate) fn action_named(token: &[u8]) -> Option<Action>
     ensures { result ≡ action_named token.now }
 {
-    if is_text(b"action=ALLOW", token) {
+    if token == b"action=ALLOW".as_slice() {
         return Some(Action::Allow);
     }
-    if is_text(b"action=DENY", token) {
+    if token == b"action=DENY".as_slice() {
         return Some(Action::Deny);
     }
     None
@@ -107,22 +100,22 @@ fn digest_of(word: &[u8]) -> Option<Digest>
 fn truth_property_of(token: &[u8]) -> Option<Property>
     ensures { result ≡ truth_property_of token.now }
 {
-    if is_text(b"boot_verified=TRUE", token) {
+    if token == b"boot_verified=TRUE".as_slice() {
         return Some(Property::BootVerified(true));
     }
-    if is_text(b"boot_verified=FALSE", token) {
+    if token == b"boot_verified=FALSE".as_slice() {
         return Some(Property::BootVerified(false));
     }
-    if is_text(b"dmverity_signature=TRUE", token) {
+    if token == b"dmverity_signature=TRUE".as_slice() {
         return Some(Property::DmveritySignature(true));
     }
-    if is_text(b"dmverity_signature=FALSE", token) {
+    if token == b"dmverity_signature=FALSE".as_slice() {
         return Some(Property::DmveritySignature(false));
     }
-    if is_text(b"fsverity_signature=TRUE", token) {
+    if token == b"fsverity_signature=TRUE".as_slice() {
         return Some(Property::FsveritySignature(true));
     }
-    if is_text(b"fsverity_signature=FALSE", token) {
+    if token == b"fsverity_signature=FALSE".as_slice() {
         return Some(Property::FsveritySignature(false));
     }
     None
