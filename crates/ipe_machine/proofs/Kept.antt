@@ -88,10 +88,11 @@ load_keeps policies text =
 named_same : (name : List ℕ) (entry : Loaded) → is_named name entry ≡ true → entry.name ≡ name
 named_same name entry named = same_text entry.name name (sym named)
 
-named_self : (name : List ℕ) → is_text name name ≡ true
+pub named_self : (name : List ℕ) → is_text name name ≡ true
 named_self name = (bytes_decides name name).1 refl
 
-abbrev no_entry : Loaded
+-- an entry, where a place is past the end
+abbrev pub no_entry : Loaded
 no_entry = record { name = []; version = no_policy.version; text = []; serial = 0 }
 
 delete_keeps : (policies : Policies) (name : List ℕ) (wanted : Value) → is_active name policies ≡ false → Keeps policies (changed policies (Delete name wanted))
@@ -123,7 +124,7 @@ taken_ok verdicts text go_on did is =
     read_ok (reading text) go_on did known.1
 
 -- an update that is done is of a loaded name, and brings this name and no lower version
-update_ok : (verdicts : Verdicts) (policies : Policies) (name text : List ℕ) (found : Option Loaded) (did : Done) → update_of verdicts policies name text found ≡ Ok did → (entry : Loaded) × (found ≡ Some entry) × ((policy_in text).name ≡ name) × (packed entry.version ≤ packed (policy_in text).version)
+pub update_ok : (verdicts : Verdicts) (policies : Policies) (name text : List ℕ) (found : Option Loaded) (did : Done) → update_of verdicts policies name text found ≡ Ok did → (entry : Loaded) × (found ≡ Some entry) × ((policy_in text).name ≡ name) × (packed entry.version ≤ packed (policy_in text).version)
 update_ok verdicts policies name text None did is = cc
 update_ok verdicts policies name text (Some entry) did is =
     let go_on : PolicyParts → Result Done Refusal = λ policy. cond (not (is_text name policy.name)) (Err refusal.TheVariants.OtherName) (cond (nat_lt (packed policy.version) (packed entry.version)) (Err (refusal.TheVariants.Stale entry.version policy.version)) (cond (is_active name policies && eqb policies.epoch last_epoch) (Err refusal.TheVariants.EpochFull) (Ok done.TheVariants.Updated))) in
@@ -159,7 +160,8 @@ replaced_keeps policies name old new was named higher = by_name policies (replac
               (entry, find_past (is_named active) policies.loaded place new no_entry differs alike ∙ found, omega arith)
         ]
 
-abbrev updated : Policies → List ℕ → List ℕ → Policies
+-- the policies with the entry that an update brings
+abbrev pub updated : Policies → List ℕ → List ℕ → Policies
 updated policies name text = record policies { loaded = replaced policies.loaded name (entry_of policies.next text); next = policies.next + 1 }
 
 update_keeps : (policies : Policies) (name text : List ℕ) → Keeps policies (with_loaded policies (replaced policies.loaded name (entry_of policies.next text))) → Keeps policies (changed policies (Update name text))

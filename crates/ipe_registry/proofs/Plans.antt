@@ -1,5 +1,5 @@
 -- How the parts of an answer make the whole.
-use Rattle.std.proofs.Common.{◌≡◌, ℕ, ◌<◌, Bool, true, false, cond, [], List, length, Option, Some, Result, Ok, Err, refl, sym, ◌∙◌, ap, subst, get_or}
+use Rattle.std.proofs.Common.{◌≡◌, ℕ, ◌<◌, Bool, true, false, cond, List, length, Option, Some, Result, Ok, Err, refl, sym, ◌∙◌, ap, subst, get_or}
 use Rattle.std.specs.List.{slice_get, remove}
 use Rattle.std.specs.Option.{option_map_or, option_and_then}
 use Rattle.std.proofs.lemmas.List.Quantifiers.{position-Some}
@@ -19,6 +19,7 @@ use Rattle.ipe_machine.specs.declared.answer.Refusal.TheVariants.{NotPermitted, 
 use Rattle.ipe_machine.specs.Policies as policies
 use Rattle.ipe_machine.specs.Policies.{Policies, place_of, entry_named, is_named, is_active, no_policy, without}
 use Rattle.ipe_machine.specs.Answer.{Verdicts, verdict_on, is_revoked, is_unknown, when_it_reads, when_it_is_taken, load_answer, update_answer, update_of, answer, act_answer, activation_of, most_text, most_words, after_answer, changed, delete_answer, is_true}
+use Rattle.ipe_machine.proofs.Kept.{no_entry}
 use Rattle.ipe_registry.specs.declared.change.Plan.{Plan}
 use Rattle.ipe_registry.specs.declared.change.Plan.TheVariants as plan
 use Rattle.ipe_registry.specs.Change.{IsPlan, step_done, change_done}
@@ -63,10 +64,6 @@ load_refused verdicts policies text refusal taken =
 pub load_taken : (verdicts : Verdicts) (policies : Policies) (text : List ℕ) (policy : PolicyParts) → taken_of verdicts text ≡ Ok policy → load_answer verdicts policies text ≡ load_by policies policy
 load_taken verdicts policies text policy taken =
     taken-and_then verdicts text (load_by policies) ∙ ap (λ r. and_then r (load_by policies)) taken
-
--- an entry, where a place is past the end
-abbrev no_entry : policies.Loaded
-no_entry = record { name = []; version = no_policy.version; text = []; serial = 0 }
 
 -- the entry of a name that has a place
 entry_at : (name : List ℕ) (loaded : List policies.Loaded) (place : ℕ) → place_of name loaded ≡ Some place → (entry : policies.Loaded) × (slice_get loaded place ≡ Some entry) × (entry_named name loaded ≡ Some entry)

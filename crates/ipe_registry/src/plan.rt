@@ -2,7 +2,7 @@ ghost use Rattle.std.specs.Prelude.{◌≡◌, ◌<◌, ◌≤◌, ◌^◌, IfOk
 ghost use Rattle.sha2.specs.Sha256.{sha256};
 ghost use Rattle.ipe_policy.specs.Spelling.{words_of_image};
 ghost use Rattle.ipe_parse.specs.Reading.{reading};
-ghost use Rattle.ipe_machine.specs.Policies.{place_of, is_active, active_entry};
+ghost use Rattle.ipe_machine.specs.Policies.{place_of, active_entry};
 ghost use Rattle.ipe_machine.specs.Answer.{load_answer, update_answer, activate_answer, delete_answer, switch_answer};
 ghost use Rattle.ipe_registry.specs.Change.{IsPlan};
 ghost use Rattle.ipe_registry.specs.Parts.{IsPlanOf, IsTaken, load_by, update_by, activation_by, version_at, standing_against};
@@ -101,15 +101,6 @@ impl Registry {
         }
     }
 
-    fn is_active(&self, name: &[u8]) -> bool
-        ensures { result ≡ is_active name.now self.now }
-    {
-        match &self.active {
-            Some(active) => active.as_slice() == name,
-            None => false,
-        }
-    }
-
     #[tactic(auto, using(crate::proofs::Plans::load_refused, crate::proofs::Plans::load_taken))]
     fn plan_load<S: Signer>(
         &self,
@@ -143,7 +134,7 @@ impl Registry {
         requires fits { words_of_image policy.items ≤ 4096 }
         ensures { IfOk result (IsPlanOf self.now (Act.Load text.now) (load_by self.now policy)) }
     {
-        if place_of(&self.entries, policy.name.as_slice()).is_some() {
+        if place_of(&self.entries, &policy.name).is_some() {
             return Ok(Plan::Refused(Refusal::Exists));
         }
         if self.entries.len() >= MOST_LOADED {
@@ -164,7 +155,7 @@ impl Registry {
         requires { self.now.next < 2 ^ 63 }
         ensures { IfOk result (IsPlanOf self.now (Act.Update name.now text.now) (update_answer (S.verdict_of signer.now) self.now name.now text.now)) }
     {
-        let Some(place) = place_of(&self.entries, name.as_slice()) else {
+        let Some(place) = place_of(&self.entries, name) else {
             return Ok(Plan::Refused(Refusal::NoEntry));
         };
         match taken(alloc, signer, text.as_slice())? {
@@ -202,7 +193,7 @@ impl Registry {
         if offered.packed() < present.packed() {
             return Ok(Plan::Refused(Refusal::Stale { present, offered }));
         }
-        let raises = self.is_active(name.as_slice());
+        let raises = self.is_active(name);
         if raises && self.epoch == LAST_EPOCH {
             return Ok(Plan::Refused(Refusal::EpochFull));
         }
@@ -221,7 +212,7 @@ impl Registry {
         if wanted != Value::True {
             return Ok(Plan::Refused(Refusal::BadValue));
         }
-        match place_of(&self.entries, name.as_slice()) {
+        match place_of(&self.entries, name) {
             Some(place) => self.plan_choice(name, version_at(&self.entries, place)),
             None => Ok(Plan::Refused(Refusal::NoEntry)),
         }
@@ -231,7 +222,7 @@ impl Registry {
     fn plan_choice(&self, name: &Name, offered: Version) -> Result<Plan, AllocError>
         ensures { IfOk result (IsPlanOf self.now (Act.Activate name.now Value.True) (activation_by self.now name.now offered)) }
     {
-        if self.is_active(name.as_slice()) {
+        if self.is_active(name) {
             return Ok(Plan::Same(Done::AlreadyActive));
         }
         if let Some(present) = self.standing_against(offered) {
@@ -258,10 +249,10 @@ impl Registry {
         if wanted != Value::True {
             return Plan::Refused(Refusal::BadValue);
         }
-        let Some(place) = place_of(&self.entries, name.as_slice()) else {
+        let Some(place) = place_of(&self.entries, name) else {
             return Plan::Refused(Refusal::NoEntry);
         };
-        let active = self.is_active(name.as_slice());
+        let active = self.is_active(name);
         if active {
             return Plan::Refused(Refusal::IsActive);
         }

@@ -1,6 +1,5 @@
 ghost use Rattle.std.specs.Prelude.{◌≡◌, ◌<◌, ◌≤◌, IfOk, IfSome, List, ℕ, length};
-ghost use Rattle.std.specs.Option.{option_copied};
-ghost use Rattle.ipe_machine.specs.Policies.{place_of, entry_named};
+ghost use Rattle.ipe_machine.specs.Policies.{place_of};
 
 use crate::Entry;
 use ipe_policy::Name;
@@ -33,29 +32,19 @@ impl Model for Registry {
 }
 
 // The place of the entry of a name.
-pub(crate) fn place_of(entries: &[Entry], name: &[u8]) -> Option<usize>
+pub(crate) fn place_of(entries: &[Entry], name: &Name) -> Option<usize>
     ensures place { result ≡ place_of name.now entries.now }
     ensures within { IfSome result (λ place. place < length entries.now) }
 {
     entries
         .iter()
-        .position(|entry| entry.name.as_slice() == name)
-}
-
-// The entry of a name.
-fn entry_named<'a>(entries: &'a [Entry], name: &[u8]) -> Option<&'a Entry>
-    ensures { option_copied result ≡ entry_named name.now entries.entry.now }
-{
-    match place_of(entries, name) {
-        Some(place) => entries.get(place),
-        None => None,
-    }
+        .position(|entry| entry.name.as_slice() == name.as_slice())
 }
 
 impl Registry {
     ghost use Rattle.std.specs.Prelude.{◌≡◌, ◌≤◌, IfOk, length};
     ghost use Rattle.std.specs.Option.{option_copied};
-    ghost use Rattle.ipe_machine.specs.Policies.{first_policies, active_entry};
+    ghost use Rattle.ipe_machine.specs.Policies.{active_entry, entry_named, first_policies, is_active};
 
     /// Nothing is loaded, enforce is on and success_audit off. It has room for 32 policies.
     pub fn new(alloc: Global) -> Result<Registry, AllocError>
@@ -79,6 +68,16 @@ impl Registry {
         self.entries.as_slice()
     }
 
+    /// The entry of the policy of this name, where it is loaded.
+    pub fn entry(&self, name: &Name) -> Option<&Entry>
+        ensures { option_copied result ≡ entry_named name.now self.now.loaded }
+    {
+        match place_of(&self.entries, name) {
+            Some(place) => self.entries.get(place),
+            None => None,
+        }
+    }
+
     /// The name of the active policy.
     pub fn active(&self) -> Option<&Name>
         ensures { option_copied result ≡ self.now.active }
@@ -86,12 +85,22 @@ impl Registry {
         self.active.as_ref()
     }
 
+    /// Whether the policy of this name is the active one.
+    pub fn is_active(&self, name: &Name) -> bool
+        ensures { result ≡ is_active name.now self.now }
+    {
+        match &self.active {
+            Some(active) => active.as_slice() == name.as_slice(),
+            None => false,
+        }
+    }
+
     /// The entry of the active policy.
     pub fn active_entry(&self) -> Option<&Entry>
         ensures { option_copied result ≡ active_entry self.now }
     {
         match &self.active {
-            Some(name) => entry_named(&self.entries, name.as_slice()),
+            Some(name) => self.entry(name),
             None => None,
         }
     }
