@@ -1,10 +1,10 @@
 -- The files of securityfs by which an administrator acts: what a write to each asks for, and what a read of each gives.
-use Rattle.std.specs.Prelude.{ℕ, ◌==◌, Bool, true, false, codes, if◌then◌else◌, List, take, drop, Option, Some, None, Result, Ok, Err}
+use Rattle.std.specs.Prelude.{ℕ, ◌==◌, Bool, codes, if◌then◌else◌, List, take, drop, Option, Some, None, Result, Ok, Err}
 use Rattle.std.specs.declared.vec.Vec.{Vec}
 use Rattle.std.specs.List.{before_first, after_first}
 use Rattle.std.specs.Option.{option_map, ok_or}
 use Rattle.ipe_policy.specs.Words.{is_text, is_name}
-use Rattle.ipe_policy.specs.Spelling.{version_text}
+use Rattle.ipe_policy.specs.Spelling.{bit_text, version_text}
 use Rattle.ipe_machine.specs.declared.command.Act.{Act}
 use Rattle.ipe_machine.specs.declared.command.Act.TheVariants as act
 use Rattle.ipe_machine.specs.declared.command.Command.{Command}
@@ -80,11 +80,6 @@ write_at (Some node) bytes may = asked may (node_act node bytes)
 abbrev pub node_write : List ℕ → List ℕ → Bool → Result Command Refusal
 node_write path bytes may = write_at (node_of path) bytes may
 
--- a truth value as it is read
-abbrev pub truth_text : Bool → List ℕ
-truth_text true = codes "1"
-truth_text false = codes "0"
-
 -- what is shown of a loaded policy; one that isn't loaded has no entry
 abbrev pub of_loaded : (Loaded → List ℕ) → Option Loaded → Result (List ℕ) Refusal
 of_loaded shown entry = ok_or (option_map shown entry) NoEntry
@@ -95,15 +90,15 @@ leaf_read policies name entry leaf.Pkcs7 = of_loaded (λ (e : Loaded). e.text) e
 leaf_read policies name entry leaf.Policy = of_loaded (λ (e : Loaded). e.text) entry
 leaf_read policies name entry leaf.Name = of_loaded (λ (e : Loaded). e.name) entry
 leaf_read policies name entry leaf.Version = of_loaded (λ (e : Loaded). version_text e.version) entry
-leaf_read policies name entry leaf.Active = of_loaded (λ (e : Loaded). truth_text (is_active name policies)) entry
+leaf_read policies name entry leaf.Active = of_loaded (λ (e : Loaded). bit_text (is_active name policies)) entry
 leaf_read policies name entry leaf.Update = Err Direction
 leaf_read policies name entry leaf.Delete = Err Direction
 
 -- what a read of a node gives
 abbrev pub bytes_at : Policies → Node → Result (List ℕ) Refusal
 bytes_at policies node.NewPolicy = Err Direction
-bytes_at policies node.Enforce = Ok (truth_text policies.enforce)
-bytes_at policies node.SuccessAudit = Ok (truth_text policies.success)
+bytes_at policies node.Enforce = Ok (bit_text policies.enforce)
+bytes_at policies node.SuccessAudit = Ok (bit_text policies.success)
 bytes_at policies (node.OfPolicy name leaf) = leaf_read policies name (entry_named name policies.loaded) leaf
 
 -- what a read of a node gives; a path that is no node's has no entry

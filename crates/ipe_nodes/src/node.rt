@@ -1,6 +1,5 @@
 ghost use Rattle.std.specs.Prelude.{◌≡◌, position};
 ghost use Rattle.std.specs.List.{after_first, before_first};
-ghost use Rattle.ipe_policy.specs.Words.{is_text};
 ghost use Rattle.ipe_nodes.specs.Nodes.{is_slash, leaf_of, node_of, policy_node};
 
 use ipe_policy::Name;
@@ -43,31 +42,25 @@ fn cut_at_slash(path: &[u8]) -> (&[u8], &[u8])
     }
 }
 
-fn is_text(text: &[u8], bytes: &[u8]) -> bool
-    ensures { result ≡ is_text text.now bytes.now }
-{
-    bytes == text
-}
-
 impl Leaf {
     // The file that a word names in a policy's folder.
     #[tactic(auto, unfolding(crate::specs::Nodes::leaf_of))]
     fn read(word: &[u8]) -> Option<Leaf>
         ensures { result ≡ leaf_of word.now }
     {
-        if is_text(b"pkcs7", word) {
+        if word == b"pkcs7".as_slice() {
             Some(Leaf::Pkcs7)
-        } else if is_text(b"policy", word) {
+        } else if word == b"policy".as_slice() {
             Some(Leaf::Policy)
-        } else if is_text(b"name", word) {
+        } else if word == b"name".as_slice() {
             Some(Leaf::Name)
-        } else if is_text(b"version", word) {
+        } else if word == b"version".as_slice() {
             Some(Leaf::Version)
-        } else if is_text(b"active", word) {
+        } else if word == b"active".as_slice() {
             Some(Leaf::Active)
-        } else if is_text(b"update", word) {
+        } else if word == b"update".as_slice() {
             Some(Leaf::Update)
-        } else if is_text(b"delete", word) {
+        } else if word == b"delete".as_slice() {
             Some(Leaf::Delete)
         } else {
             None
@@ -81,11 +74,11 @@ impl Node {
     pub(crate) fn read(path: &[u8]) -> Option<Node>
         ensures { result ≡ node_of path.now }
     {
-        if is_text(b"new_policy", path) {
+        if path == b"new_policy".as_slice() {
             Some(Node::NewPolicy)
-        } else if is_text(b"enforce", path) {
+        } else if path == b"enforce".as_slice() {
             Some(Node::Enforce)
-        } else if is_text(b"success_audit", path) {
+        } else if path == b"success_audit".as_slice() {
             Some(Node::SuccessAudit)
         } else {
             Node::of_policy(path.strip_prefix(b"policies/")?)
