@@ -7,8 +7,6 @@ use Rattle.ipe_policy.specs.declared.request.Object.{Object}
 use Rattle.ipe_policy.specs.declared.request.Object.TheVariants as object
 use Rattle.ipe_policy.specs.declared.evaluation.Context.{Context}
 use Rattle.ipe_policy.specs.declared.op.Op.{Op}
-use Rattle.ipe_policy.specs.declared.request.Request.{Request}
-use Rattle.ipe_policy.specs.declared.request.Subject.{Subject}
 use Rattle.ipe_policy.specs.Request.{evaluated_op}
 use Rattle.ipe_signer.specs.declared.signer.Purpose.{Purpose}
 use Rattle.ipe_signer.specs.declared.signer.Purpose.TheVariants as purpose
@@ -20,7 +18,6 @@ use Rattle.ipe_machine.specs.declared.command.Command.{Command}
 use Rattle.ipe_machine.specs.declared.answer.Done.{Done}
 use Rattle.ipe_machine.specs.declared.answer.Refusal.{Refusal}
 use Rattle.ipe_machine.specs.declared.event.CoreRuling.{CoreRuling}
-use Rattle.ipe_machine.specs.declared.event.Event.{Event}
 use Rattle.ipe_machine.specs.declared.event.Event.TheVariants as event
 use Rattle.ipe_machine.specs.declared.event.Place.{Place}
 use Rattle.ipe_machine.specs.Policies.{active_entry}
@@ -82,10 +79,6 @@ object_of script (Some place) = option_map_or (λ (file : FileLine). object.File
 -- what a write asks for: a command, or why it asks for none
 abbrev pub asked_by : Script → Bool → List ℕ → WriteContent → Result Command Refusal
 asked_by script may node content = node_write node (content_of script content) may
-
--- the claim of a hook; worker 1 has pass 0
-abbrev pub claim_of : Script → Request → Subject → Option ℕ → Event
-claim_of script request subject file = event.Claim 0 request subject (object_of script file) (context_of file)
 
 -- what a line is replied: a write the epoch after it, its answer and its records; a read the epoch and what is told; a hook its ruling, and the record where one is due
 pub data LineReply : Type 0 where
