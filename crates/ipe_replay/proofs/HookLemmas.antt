@@ -1,5 +1,6 @@
 -- A claim on a policy is held, and the record of an access is told by the image of the policy.
-use Rattle.std.proofs.Common.{◌≡◌, Bool, true, cond, IsTrue, List, ℕ, [], ◌∷◌, Option, Some, None, slice_get, is_some, refl, sym, ap, ◌∙◌}
+use Rattle.std.proofs.Common.{◌≡◌, Bool, true, cond, IsTrue, List, ℕ, [], ◌∷◌, Option, Some, None, slice_get, is_some}
+use Rattle.std.proofs.Common.{refl, sym, ap, ◌∙◌}
 use Rattle.std.specs.Option.{option_and_then, option_map}
 use Rattle.ipe_policy.specs.declared.op.Op.{Op}
 use Rattle.ipe_policy.specs.declared.evaluation.Context.{Context}
@@ -15,7 +16,8 @@ use Rattle.ipe_image.specs.Decision.{deciding}
 use Rattle.ipe_image.specs.Law.{DecideAlike}
 use Rattle.ipe_audit.specs.Records.{decided_text}
 use Rattle.ipe_machine.specs.Policies.{Loaded, active_entry, policy_in}
-use Rattle.ipe_machine.specs.Machine.{Machine, after_claim, claimed, is_free, is_holding, ruling_at, ruling_by, ruling_for}
+use Rattle.ipe_machine.specs.Machine.{Machine, after_claim, claimed, is_free, is_holding, ruling_at, ruling_by}
+use Rattle.ipe_machine.specs.Machine.{ruling_for}
 use Rattle.ipe_records.specs.Records.{access_by, access_for, access_of}
 use Rattle.ipe_replay.specs.Ruled.{IsRuledBy, parts_in}
 

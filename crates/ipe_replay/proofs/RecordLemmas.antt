@@ -1,20 +1,15 @@
 -- The records of a command are those that are told from the policies after it.
-use Rattle.std.proofs.Common.{◌≡◌, ℕ, ◌+◌, ◌-◌, not, Bool, true, false, cond, List, [], ◌∷◌, ◌++◌, length, Option, Some, None, Result, Ok, Err, length-append, refl, ap, ◌∙◌, arith}
+use Rattle.std.proofs.Common.{◌≡◌, ℕ, ◌+◌, ◌-◌, Bool, true, false, cond, List, [], ◌∷◌, ◌++◌, length, Option, Some}
+use Rattle.std.proofs.Common.{None, Result, Ok, Err, length-append, refl, ap, ◌∙◌, arith}
 use Rattle.std.specs.Borrow.{Bor}
-use Rattle.std.specs.Prelude.{nat_lt, slice_get}
+use Rattle.std.specs.Prelude.{slice_get}
 use Rattle.std.specs.List.{find, slice_set}
-use Rattle.std.specs.Option.{option_copied, option_map, option_map_or, unwrap_or}
-use Rattle.std.specs.Result.{result_ok}
-use Rattle.std.proofs.lemmas.Bool.{not-false}
+use Rattle.std.specs.Option.{option_copied, option_map, option_map_or}
 use Rattle.std.proofs.lemmas.List.Folds.{find-set}
 use Rattle.std.proofs.lemmas.List.Quantifiers.{position-Some}
 use Rattle.ipe_policy.specs.Words.{is_text}
-use Rattle.ipe_policy.specs.Policy.{PolicyParts}
-use Rattle.ipe_policy.specs.Spelling.{words_of_image}
 use Rattle.ipe_audit.specs.declared.records.Brief.{Brief}
 use Rattle.ipe_audit.specs.Records.{seen}
-use Rattle.ipe_parse.specs.declared.error.BadText.{BadText}
-use Rattle.ipe_parse.specs.Reading.{reading}
 use Rattle.ipe_machine.specs.declared.command.Act.{Act}
 use Rattle.ipe_machine.specs.declared.command.Act.TheVariants.{Load, Update, Activate, Delete, Enforce, SuccessAudit}
 use Rattle.ipe_machine.specs.declared.command.Command.{Command}
@@ -22,9 +17,11 @@ use Rattle.ipe_machine.specs.declared.answer.Done.{Done}
 use Rattle.ipe_machine.specs.declared.answer.Done.TheVariants as done
 use Rattle.ipe_machine.specs.declared.answer.Refusal as refusal
 use Rattle.ipe_machine.specs.declared.answer.Refusal.{Refusal}
-use Rattle.ipe_machine.specs.Policies.{Policies, Loaded, active_entry, entry_named, entry_of, is_active, is_named, no_policy, place_of, policy_in, replaced}
-use Rattle.ipe_machine.specs.Answer.{Verdicts, act_answer, after, after_answer, answer, changed, is_revoked, is_unknown, later, most_text, most_words, update_of, verdict_on, when_it_is_taken, when_it_reads}
+use Rattle.ipe_machine.specs.Policies.{Policies, Loaded, active_entry, entry_named, entry_of, is_active, is_named}
+use Rattle.ipe_machine.specs.Policies.{place_of, replaced}
+use Rattle.ipe_machine.specs.Answer.{Verdicts, act_answer, after, after_answer, answer, changed, later}
 use Rattle.ipe_machine.proofs.Entries.{entry_named_is, place_is}
+use Rattle.ipe_machine.proofs.Kept.{named_self, no_entry, update_ok, updated}
 use Rattle.ipe_records.specs.Records.{act_records, activation_of, answer_records, brief_of, records_of}
 use Rattle.ipe_replay.specs.Told.{act_told, activation_told, answer_told, load_told, update_told}
 
@@ -45,45 +42,6 @@ last_of loaded entry =
     omega (arith, length-append loaded (entry ∷ [])) in
     ap (slice_get (loaded ++ entry ∷ [])) place ∙ at_end loaded entry
 
--- an answer that is no refusal has passed the test before it
-passed : (test : Bool) (why : Refusal) (rest : Result Done Refusal) (did : Done) → cond test (Err why) rest ≡ Ok did
-    → (test ≡ false) × (rest ≡ Ok did)
-passed true why rest did is = cc
-passed false why rest did is = (refl, is)
-
--- an answer after a text is taken
-read_ok : (read : Result PolicyParts BadText) (go_on : PolicyParts → Result Done Refusal) (did : Done)
-    → when_it_reads read go_on ≡ Ok did → (policy : PolicyParts) × (read ≡ Ok policy) × (go_on policy ≡ Ok did)
-read_ok (Err fault) go_on did is = cc
-read_ok (Ok policy) go_on did is =
-    let words : ℕ = words_of_image policy.items in
-    (policy, refl, (passed (nat_lt most_words words) (refusal.TheVariants.TooWide words) (go_on policy) did is).1)
-
-taken_ok : (verdicts : Verdicts) (text : List ℕ) (go_on : PolicyParts → Result Done Refusal) (did : Done)
-    → when_it_is_taken verdicts text go_on ≡ Ok did
-    → (policy : PolicyParts) × (reading text ≡ Ok policy) × (go_on policy ≡ Ok did)
-taken_ok verdicts text go_on did is =
-    let small = passed (nat_lt most_text (length text)) refusal.TheVariants.TooBig _ did is in
-    let kept = passed (is_revoked (verdict_on verdicts text)) refusal.TheVariants.Rejected _ did small.1 in
-    let known = passed (is_unknown (verdict_on verdicts text)) refusal.TheVariants.NoKey _ did kept.1 in
-    read_ok (reading text) go_on did known.1
-
--- an update that is done is of a loaded name, and brings this name
-update_ok : (verdicts : Verdicts) (policies : Policies) (name text : List ℕ) (found : Option Loaded) (did : Done)
-    → update_of verdicts policies name text found ≡ Ok did
-    → (entry : Loaded) × (found ≡ Some entry) × (is_text name (policy_in text).name ≡ true)
-update_ok verdicts policies name text None did is = cc
-update_ok verdicts policies name text (Some entry) did is =
-    let taken = taken_ok verdicts text _ did is in
-    let policy : PolicyParts = taken.0 in
-    let read : policy_in text ≡ policy =
-    ap (λ (r : Result PolicyParts BadText). unwrap_or (result_ok r) no_policy) taken.1 in
-    let one = passed (not (is_text name policy.name)) refusal.TheVariants.OtherName _ did taken.2 in
-    (entry, refl, ap (λ (p : PolicyParts). is_text name p.name) read ∙ not-false (is_text name policy.name) one.0)
-
-abbrev no_entry : Loaded
-no_entry = record { name = []; version = no_policy.version; text = []; serial = 0 }
-
 -- an entry of a name that took the place of that of the name is the name's
 replaced_named : (name : List ℕ) (loaded : List Loaded) (old new : Loaded) → entry_named name loaded ≡ Some old
     → is_named name new ≡ true → entry_named name (replaced loaded name new) ≡ Some new
@@ -103,10 +61,6 @@ replaced_named name loaded old new was named =
 -- the list with the entry that an update brings
 abbrev with_entry : Policies → List ℕ → List ℕ → List Loaded
 with_entry policies name text = replaced policies.loaded name (entry_of policies.next text)
-
--- the policies with it
-abbrev updated : Policies → List ℕ → List ℕ → Policies
-updated policies name text = record policies { loaded = with_entry policies name text; next = policies.next + 1 }
 
 update_is_told : (old : Option Brief) (policies : Policies) (name text : List ℕ) (active : Bool)
     → is_active name policies ≡ active
@@ -140,7 +94,7 @@ act_is_told verdicts policies (Update name text) did is =
     let found = update_ok verdicts policies name text (entry_named name policies.loaded) did is in
     let new : Loaded = entry_of policies.next text in
     update_is_told (old_brief policies) policies name text (is_active name policies) refl
-    (replaced_named name policies.loaded found.0 new found.1 found.2)
+    (replaced_named name policies.loaded found.0 new found.1 (ap (is_text name) found.2 ∙ named_self name))
 act_is_told verdicts policies (Activate name wanted) did is =
     activation_is_told policies (entry_named name policies.loaded)
 act_is_told verdicts policies (Delete name wanted) did is = refl

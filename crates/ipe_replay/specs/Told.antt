@@ -1,11 +1,13 @@
 -- The records of a command, as they are told from the policies after it.
-use Rattle.std.specs.Prelude.{ℕ, ◌-◌, Bool, if◌then◌else◌, List, [], ◌∷◌, length, Option, Some, None, Result, Ok, Err, slice_get}
+use Rattle.std.specs.Prelude.{ℕ, ◌-◌, Bool, if◌then◌else◌, List, [], ◌∷◌, length, Option, Some, None, Result, Ok, Err}
+use Rattle.std.specs.Prelude.{slice_get}
 use Rattle.ipe_audit.specs.declared.records.Brief.{Brief}
 use Rattle.ipe_audit.specs.Records.{activation_text, enforce_text, load_text}
 use Rattle.ipe_machine.specs.declared.command.Act.{Act}
 use Rattle.ipe_machine.specs.declared.command.Act.TheVariants.{Load, Update, Activate, Delete, Enforce, SuccessAudit}
 use Rattle.ipe_machine.specs.declared.answer.Done.{Done}
-use Rattle.ipe_machine.specs.declared.answer.Done.TheVariants.{Loaded, Updated, Activated, AlreadyActive, Deleted, Changed, Same}
+use Rattle.ipe_machine.specs.declared.answer.Done.TheVariants.{Loaded, Updated, Activated, AlreadyActive, Deleted}
+use Rattle.ipe_machine.specs.declared.answer.Done.TheVariants.{Changed, Same}
 use Rattle.ipe_machine.specs.declared.answer.Refusal.{Refusal}
 use Rattle.ipe_machine.specs.Policies as state
 use Rattle.ipe_machine.specs.Policies.{Policies, entry_named, is_active}

@@ -1,13 +1,12 @@
-ghost use Rattle.std.specs.Prelude.{◌≡◌, ◌<◌, ◌∷◌, [], IfOk, IfSome, length};
+ghost use Rattle.std.specs.Prelude.{◌≡◌, ◌∷◌, [], IfOk};
 ghost use Rattle.std.specs.Option.{option_copied, option_map};
 ghost use Rattle.ipe_audit.specs.Records.{activation_text, load_text, seen};
-ghost use Rattle.ipe_machine.specs.Policies.{active_entry, entry_named, is_active, place_of};
+ghost use Rattle.ipe_machine.specs.Policies.{active_entry};
 ghost use Rattle.ipe_records.specs.Records.{brief_of};
 ghost use Rattle.ipe_replay.specs.Told.{act_told, activation_told, answer_told, load_told, update_told};
 
 use ipe_audit::{Brief, LineBytes, Lines, activation_line, enforce_line, load_line};
 use ipe_core::{Act, Done, Entry, Refusal, Registry};
-use ipe_policy::Name;
 use std::alloc::{AllocError, Global};
 
 fn brief_of(entry: &Entry) -> Result<Brief, AllocError>
@@ -27,34 +26,6 @@ pub(crate) fn active_brief(registry: &Registry) -> Result<Option<Brief>, AllocEr
     match registry.active_entry() {
         Some(entry) => Ok(Some(brief_of(entry)?)),
         None => Ok(None),
-    }
-}
-
-fn place_of(entries: &[Entry], name: &Name) -> Option<usize>
-    ensures place { result ≡ place_of name.now entries.now }
-    ensures within { IfSome result (λ place. place < length entries.now) }
-{
-    entries
-        .iter()
-        .position(|entry| entry.name.as_slice() == name.as_slice())
-}
-
-// The entry of a name.
-fn entry_named<'a>(entries: &'a [Entry], name: &Name) -> Option<&'a Entry>
-    ensures { option_copied result ≡ entry_named name.now entries.entry.now }
-{
-    match place_of(entries, name) {
-        Some(place) => entries.get(place),
-        None => None,
-    }
-}
-
-fn is_active(registry: &Registry, name: &Name) -> bool
-    ensures { result ≡ is_active name.now registry.now }
-{
-    match registry.active() {
-        Some(active) => active.as_slice() == name.as_slice(),
-        None => false,
     }
 }
 
@@ -144,16 +115,15 @@ fn act_records(
 ) -> Result<Lines, AllocError>
     ensures { IfOk result (λ lines. lines ≡ act_told (seen old.entry) registry.now act.now) }
 {
-    let entries = registry.entries();
     match act {
-        Act::Load(_) => load_records(alloc, entries.last()),
+        Act::Load(_) => load_records(alloc, registry.entries().last()),
         Act::Update(name, _) => update_records(
             alloc,
             old,
-            is_active(registry, name),
-            entry_named(entries, name),
+            registry.is_active(name),
+            registry.entry(name),
         ),
-        Act::Activate(name, _) => activation_records(alloc, old, entry_named(entries, name)),
+        Act::Activate(name, _) => activation_records(alloc, old, registry.entry(name)),
         Act::Enforce(_) => one_line(alloc, enforce_line(alloc, registry.enforce())?),
         Act::Delete(_, _) | Act::SuccessAudit(_) => Ok(no_lines(alloc)),
     }
