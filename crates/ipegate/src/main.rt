@@ -41,9 +41,15 @@ fn words_of(rt: &HostRuntime) -> Option<Vec<String>> {
 }
 
 #[cfg(test)]
+mod access_tests;
+#[cfg(test)]
+mod command_tests;
+#[cfg(test)]
+mod limit_tests;
+#[cfg(test)]
 mod lint_tests;
 #[cfg(test)]
-mod record_tests;
+mod mark_tests;
 #[cfg(test)]
 mod replay_tests;
 #[cfg(test)]
