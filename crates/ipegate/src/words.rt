@@ -1,8 +1,9 @@
-ghost use Rattle.std.specs.Prelude.{◌≡◌, ◌≢◌, ◌≤◌, ◌↔◌, ◌&&◌, nat_le, false, None, Some, Option, List, ℕ, length, IfSome, IsTrue};
+ghost use Rattle.std.specs.Prelude.{◌≡◌, ◌≢◌, ◌≤◌, ◌↔◌, ◌&&◌, nat_le, false, None, Some, Option, List, ℕ, length};
+ghost use Rattle.std.specs.Prelude.{IfSome, IsTrue};
 ghost use Rattle.std.specs.List.{list_all};
 ghost use Rattle.ipe_words.specs.Count.{Rose};
 ghost use Rattle.dmv_tree.specs.Blocks.{is_block_size};
-ghost use Rattle.ipe_policy.specs.Words.{is_text, is_visible};
+ghost use Rattle.ipe_policy.specs.Words.{is_visible};
 ghost use Rattle.ipegate.specs.Words.{asks_devices, block_size_of, is_device, root_by, salt_of};
 ghost use Rattle.ipegate.specs.Words.{WritesDone, WritesRefused, WritesSome};
 
@@ -79,26 +80,20 @@ pub(crate) fn root_by_words<K: Sink, D: Devices>(
     root(alloc, block_size, salt.as_slice(), device, sink, devices)
 }
 
-fn is_text(text: &[u8], word: &[u8]) -> bool
-    ensures { result ≡ is_text text.now word.now }
-{
-    word == text
-}
-
 fn block_size_of(word: &[u8]) -> Option<u32>
     ensures size { result ≡ block_size_of word.now }
     ensures rule { IfSome result (λ size. IsTrue (is_block_size size)) }
 {
-    if is_text(b"512", word) {
+    if word == b"512".as_slice() {
         return Some(512);
     }
-    if is_text(b"1024", word) {
+    if word == b"1024".as_slice() {
         return Some(1024);
     }
-    if is_text(b"2048", word) {
+    if word == b"2048".as_slice() {
         return Some(2048);
     }
-    if is_text(b"4096", word) {
+    if word == b"4096".as_slice() {
         return Some(4096);
     }
     None
@@ -107,7 +102,7 @@ fn block_size_of(word: &[u8]) -> Option<u32>
 fn salt_of(word: &[u8]) -> Option<Salt>
     ensures { result ≡ salt_of word.now }
 {
-    if is_text(b"-", word) {
+    if word == b"-".as_slice() {
         return Some(Salt { bytes: held(&[]) });
     }
     if word.len() < 2 || word.len() > 512 {
