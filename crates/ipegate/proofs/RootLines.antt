@@ -1,5 +1,6 @@
 -- The root of an image, by the shape of its tree.
-use Rattle.std.proofs.Common.{◌≡◌, ℕ, ◌/◌, ◌<◌, ◌≤◌, List, length, Option, None, Some, ap, sym, ◌∙◌, subst, arith, inl, inr}
+use Rattle.std.proofs.Common.{◌≡◌, ℕ, ◌/◌, ◌<◌, ◌≤◌, List, length, Option, None, Some, ap, sym, ◌∙◌, subst, arith, inl}
+use Rattle.std.proofs.Common.{inr}
 use Rattle.std.specs.Prelude.{IfSome}
 use Rattle.std.proofs.lemmas.Bool.{cases_lt}
 use Rattle.blk_device.specs.Contents.{Contents}
@@ -10,7 +11,8 @@ use Rattle.hash_tree.specs.Shape.{IsHeight, blocks_above}
 use Rattle.hash_tree.specs.Tree.{fan_out, root}
 use Rattle.hash_tree.proofs.Groups.{whole_count}
 use Rattle.hash_tree.proofs.Shapes.{levels_height}
-use Rattle.ipegate.specs.Root.{IsRefusedFor, IsRootAnswer, device_text, levels_above, refusal_words, root_line, root_text}
+use Rattle.ipegate.specs.Root.{IsRefusedFor, IsRootAnswer, device_text, levels_above, refusal_words, root_line}
+use Rattle.ipegate.specs.Root.{root_text}
 use Rattle.ipegate.specs.declared.rooting.Refusal.{Refusal}
 use Rattle.ipe_words.specs.declared.status.Status.TheVariants as status
 

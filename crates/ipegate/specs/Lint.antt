@@ -6,7 +6,9 @@ use Rattle.ipe_policy.specs.Statement.{rule_of}
 use Rattle.ipe_policy.specs.Policy.{PolicyParts}
 use Rattle.ipe_policy.specs.Spelling.{op_word, version_text, words_of_image}
 use Rattle.ipe_parse.specs.declared.error.BadKind.{BadKind}
-use Rattle.ipe_parse.specs.declared.error.BadKind.TheVariants.{NoHeader, BadName, BadVersion, BadOp, BadAction, PropertyInDefault, TwiceDefault, TooManyProperties, BadProperty, BadDigest}
+use Rattle.ipe_parse.specs.declared.error.BadKind.TheVariants.{NoHeader, BadName, BadVersion, BadOp, BadAction}
+use Rattle.ipe_parse.specs.declared.error.BadKind.TheVariants.{PropertyInDefault, TwiceDefault, TooManyProperties}
+use Rattle.ipe_parse.specs.declared.error.BadKind.TheVariants.{BadProperty, BadDigest}
 use Rattle.ipe_parse.specs.declared.error.BadText.{BadText}
 use Rattle.ipe_parse.specs.declared.error.BadText.TheVariants.{Bad, NoDefault}
 use Rattle.ipe_parse.specs.Reading.{reading}
@@ -20,7 +22,10 @@ most_policy_text = 1048576
 
 -- a policy's name, version, number of rules and number of image words
 abbrev pub lint_text : PolicyParts → List ℕ
-lint_text policy = codes "ok " ++ policy.name ++ (codes " " ++ version_text policy.version ++ codes " rules=" ++ decimal (length (filter_map rule_of policy.items)) ++ codes " words=" ++ decimal (words_of_image policy.items) ++ line_text (codes ""))
+lint_text policy =
+    codes "ok " ++ policy.name ++ (codes " " ++ version_text policy.version ++ codes " rules="
+    ++ decimal (length (filter_map rule_of policy.items)) ++ codes " words="
+    ++ decimal (words_of_image policy.items) ++ line_text (codes ""))
 
 -- the name of a kind of fault
 abbrev pub kind_name : BadKind → List ℕ
@@ -37,7 +42,8 @@ kind_name BadDigest = codes "BadDigest"
 
 -- the refusal of a text by its first fault
 abbrev pub fault_text : BadText → List ℕ
-fault_text (Bad line kind) = codes "refused line " ++ decimal line ++ codes ": " ++ kind_name kind ++ line_text (codes "")
+fault_text (Bad line kind) =
+    codes "refused line " ++ decimal line ++ codes ": " ++ kind_name kind ++ line_text (codes "")
 fault_text (NoDefault missing) = codes "refused: no default for " ++ op_word missing ++ line_text (codes "")
 
 -- the text reads as a policy, and what is written tells it

@@ -15,7 +15,8 @@ use Rattle.ipe_transcript.specs.Lines.{line_text}
 abbrev pub most_input : ℕ
 most_input = 16777216
 
--- the input asks for exactly this, and the text is the transcript of an order of its lines, each one's in that one's order, and each in its place; the order is the one that the written lines spell
+-- the input asks for exactly this, and the text is the transcript of an order of its lines, each one's in that one's
+-- order, and each in its place; the order is the one that the written lines spell
 pub record IsReplay (input text : List ℕ) : Type 0 where
   pub script : Script
   pub order : List (List PhaseLine)
@@ -67,4 +68,5 @@ Writes IsText before after = IfSome before (λ written. (text : List ℕ) × IsT
 
 -- where the sink tells what is written, some first bytes of a text of this kind were added to it
 abbrev pub WritesPrefix : (List ℕ → Type 0) → Option (List ℕ) → Option (List ℕ) → Type 0
-WritesPrefix IsText before after = IfSome before (λ written. (text : List ℕ) × IsText text × (k : ℕ) × (k ≤ length text) × (after ≡ Some (written ++ take k text)))
+WritesPrefix IsText before after = IfSome before (λ written.
+    (text : List ℕ) × IsText text × (k : ℕ) × (k ≤ length text) × (after ≡ Some (written ++ take k text)))

@@ -15,23 +15,27 @@ use std::alloc::{AllocError, Global};
 /// The most bytes of a policy's text.
 const MOST_TEXT: u64 = 1_048_576;
 
-/// The linter: reads a policy's text from the source to its end, and writes one line, which tells the policy or the text's
-/// first fault.
+/// The linter: reads a policy's text from the source to its end, and writes one line, which tells the policy
+/// or the text's first fault.
 pub fn lint<S: Source, K: Sink>(alloc: Global, source: &mut S, sink: &mut K) -> Status
     ensures usage { result ≢ Status.Usage }
 
     // Done: the source was read to its end, and what was written tells the policy that it reads as.
-    ensures done_read { result ≡ Status.Done → IfSome (S.remaining source.old) (λ input. S.remaining source.new ≡ Some []) }
-    ensures done { result ≡ Status.Done → IfSome (S.remaining source.old) (λ input. Writes (IsLinted input) (K.written sink.old) (K.written sink.new)) }
+    ensures done_read { result ≡ Status.Done → IfSome (S.remaining source.old) (λ input.
+        S.remaining source.new ≡ Some []) }
+    ensures done { result ≡ Status.Done → IfSome (S.remaining source.old) (λ input.
+        Writes (IsLinted input) (K.written sink.old) (K.written sink.new)) }
 
     // Refused: the text is too long, or has a first fault, and one line says so.
-    ensures refused { result ≡ Status.Refused → IfSome (S.remaining source.old) (λ input. Writes (IsLintRefusal input) (K.written sink.old) (K.written sink.new)) }
+    ensures refused { result ≡ Status.Refused → IfSome (S.remaining source.old) (λ input.
+        Writes (IsLintRefusal input) (K.written sink.old) (K.written sink.new)) }
 
     // Faults come only where they were counted.
     ensures read_fault { result ≡ Status.ReadFault → Rose (S.faults source.old) (S.faults source.new) }
     ensures write_fault { result ≡ Status.WriteFault → Rose (K.faults sink.old) (K.faults sink.new) }
     ensures write_prefix { result ≡ Status.WriteFault → IfSome (S.remaining source.old) (λ input.
-        WritesPrefix (λ text. IsLinted input text ⊎ IsLintRefusal input text) (K.written sink.old) (K.written sink.new)) }
+        WritesPrefix (λ text. IsLinted input text ⊎ IsLintRefusal input text) (K.written sink.old)
+        (K.written sink.new)) }
 
     // Without an answer nothing is written.
     ensures unread { result ≡ Status.ReadFault → sink.new ≡ sink.old }
@@ -116,7 +120,8 @@ fn fault_line(alloc: Global, fault: BadText) -> Result<Vec<u8>, AllocError>
 }
 
 fn bad_line(alloc: Global, line: u32, name: &str) -> Result<Vec<u8>, AllocError>
-    ensures { IfOk result (λ text. text.items ≡ codes "refused line " ++ decimal line ++ codes ": " ++ name.now ++ line_text (codes "")) }
+    ensures { IfOk result (λ text. text.items
+        ≡ codes "refused line " ++ decimal line ++ codes ": " ++ name.now ++ line_text (codes "")) }
 {
     let mut text = format!(in alloc; "refused line {line}: ")?;
     text.push_str(name)?;

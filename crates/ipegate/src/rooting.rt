@@ -1,4 +1,5 @@
-ghost use Rattle.std.specs.Prelude.{◌≡◌, ◌≢◌, ◌<◌, ◌≤◌, ◌⊎◌, length, IfOk, IfNone, IfSome, IsErrOf, IsTrue, Some, string_bytes};
+ghost use Rattle.std.specs.Prelude.{◌≡◌, ◌≢◌, ◌<◌, ◌≤◌, ◌⊎◌, length, IfOk, IfNone, IfSome, IsErrOf, IsTrue, Some};
+ghost use Rattle.std.specs.Prelude.{string_bytes};
 ghost use Rattle.ipe_words.specs.Count.{Rose};
 ghost use Rattle.blk_device.specs.Contents.{HasContent};
 ghost use Rattle.dmv_tree.specs.Blocks.{AreBlocks, is_block_size};

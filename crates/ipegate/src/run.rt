@@ -1,4 +1,5 @@
-ghost use Rattle.std.specs.Prelude.{◌≡◌, ◌≢◌, ◌≤◌, ◌↔◌, ◌⊎◌, [], length, map, IfOk, IfSome, Some, true, false, string_bytes};
+ghost use Rattle.std.specs.Prelude.{◌≡◌, ◌≢◌, ◌≤◌, ◌↔◌, ◌⊎◌, [], length, map, IfOk, IfSome, Some, true, false};
+ghost use Rattle.std.specs.Prelude.{string_bytes};
 ghost use Rattle.ipe_words.specs.Count.{Rose};
 ghost use Rattle.ipegate.specs.Program.{IsReplay, IsRefusal, IsAnswer, bad_line_text, Writes, WritesPrefix};
 ghost use Rattle.ipegate.specs.Words.{asked_by, asks_devices, reads_source, WritesDone, WritesRefused, WritesSome};
@@ -78,9 +79,12 @@ pub fn run<S: Source, K: Sink, D: Devices>(
 
 fn run_replay<S: Source, K: Sink>(alloc: Global, source: &mut S, sink: &mut K) -> Status
     ensures usage { result ≢ Status.Usage }
-    ensures done_read { result ≡ Status.Done → IfSome (S.remaining source.old) (λ input. S.remaining source.new ≡ Some []) }
-    ensures done { result ≡ Status.Done → IfSome (S.remaining source.old) (λ input. Writes (IsReplay input) (K.written sink.old) (K.written sink.new)) }
-    ensures refused { result ≡ Status.Refused → IfSome (S.remaining source.old) (λ input. Writes (IsRefusal input) (K.written sink.old) (K.written sink.new)) }
+    ensures done_read { result ≡ Status.Done → IfSome (S.remaining source.old) (λ input.
+        S.remaining source.new ≡ Some []) }
+    ensures done { result ≡ Status.Done → IfSome (S.remaining source.old) (λ input.
+        Writes (IsReplay input) (K.written sink.old) (K.written sink.new)) }
+    ensures refused { result ≡ Status.Refused → IfSome (S.remaining source.old) (λ input.
+        Writes (IsRefusal input) (K.written sink.old) (K.written sink.new)) }
     ensures read_fault { result ≡ Status.ReadFault → Rose (S.faults source.old) (S.faults source.new) }
     ensures write_fault { result ≡ Status.WriteFault → Rose (K.faults sink.old) (K.faults sink.new) }
     ensures write_prefix { result ≡ Status.WriteFault → IfSome (S.remaining source.old) (λ input.

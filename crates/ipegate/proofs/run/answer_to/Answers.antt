@@ -5,16 +5,21 @@ use Rattle.ipe_history.specs.Printed.{printed_order}
 use Rattle.ipe_history.specs.Spelled.{numbers_of, spelled}
 use Rattle.ipe_history.specs.Transcript.{transcript}
 use Rattle.ipe_history.proofs.PrintedOrder.{printed_in_place, printed_numbered, printed_weaves, printed_worded}
-use Rattle.ipe_history.proofs.Reading.{NumbersBelow-more, requests_in_order, requests_few, requests_numbered, requests_worded}
+use Rattle.ipe_history.proofs.Reading.{NumbersBelow-more, requests_in_order, requests_few, requests_numbered}
+use Rattle.ipe_history.proofs.Reading.{requests_worded}
 use Rattle.ipe_history.proofs.Spelling.{transcript_spelled}
 use Rattle.ipegate.proofs.run.answer_to.Goals as goal
 
 -- the transcript of what is read of an input within the limit spells the order in which it is printed
-spells_order : (input text : List ℕ) (script : Script) → length input ≤ 16777216 → requests_of input ≡ Ok script → text ≡ transcript script (printed_order script)
+spells_order : (input text : List ℕ) (script : Script) → length input ≤ 16777216 → requests_of input ≡ Ok script
+    → text ≡ transcript script (printed_order script)
     → spelled text ≡ numbers_of (printed_order script)
 spells_order input text script fits asks bytes =
-    let below = NumbersBelow-more (length input + 2) (2 ^ 32) script.phases (omega arith) (requests_numbered input script asks) in
-    ap spelled bytes ∙ transcript_spelled script (printed_order script) (printed_worded script script.phases (requests_worded input script asks)) (printed_numbered (2 ^ 32) script.phases below)
+    let below =
+    NumbersBelow-more (length input + 2) (2 ^ 32) script.phases (omega arith) (requests_numbered input script asks) in
+    ap spelled bytes ∙ transcript_spelled script (printed_order script)
+    (printed_worded script script.phases (requests_worded input script asks))
+    (printed_numbered (2 ^ 32) script.phases below)
 
 pub replay-requires : goal.replay-requires
 replay-requires c = omega (arith, c.requires, requests_few c.args.input.now c.in-Ok.requests c.in-Ok.ensures)
