@@ -1,4 +1,5 @@
 pub mod Program
 pub mod Lint
 pub mod Root
+pub mod Measure
 pub mod Words

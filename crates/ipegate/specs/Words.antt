@@ -8,27 +8,32 @@ use Rattle.ipe_policy.specs.Words.{is_text, is_visible, is_word}
 use Rattle.ipegate.specs.Program.{IsReplay, IsRefusal, Writes, WritesPrefix}
 use Rattle.ipegate.specs.Lint.{IsLinted, IsLintRefusal}
 use Rattle.ipegate.specs.Root.{IsRooted, IsRootRefusal}
+use Rattle.ipegate.specs.Measure.{IsMeasured, IsMeasureRefusal}
 
--- what the words can ask for; for a root, the size of a block, the salt and the device
+-- what the words can ask for; a root by the size of a block, the salt and the device, and to measure by the first two
 pub data Asked : Type 0 where
   replay : Asked
   lint : Asked
   root : (block_size : ℕ) (salt device : List ℕ) → Asked
+  measure : (block_size : ℕ) (salt : List ℕ) → Asked
 
--- the size of a block, in bytes
-abbrev pub block_size_of : List ℕ → Option ℕ
-block_size_of word =
-    if is_text (codes "512") word then Some 512
-    else if is_text (codes "1024") word then Some 1024
+-- the size of a block of a file, in bytes
+abbrev pub file_block_size_of : List ℕ → Option ℕ
+file_block_size_of word =
+    if is_text (codes "1024") word then Some 1024
     else if is_text (codes "2048") word then Some 2048
     else if is_text (codes "4096") word then Some 4096
     else None
 
--- a salt: a dash for none, or 2 to 512 hexadecimal digits of either case, an even number of them
-abbrev pub salt_of : List ℕ → Option (List ℕ)
-salt_of word =
+-- the size of a block of a device, in bytes: 512 too
+abbrev pub block_size_of : List ℕ → Option ℕ
+block_size_of word = if is_text (codes "512") word then Some 512 else file_block_size_of word
+
+-- a salt: a dash for none, or from 2 to so many hexadecimal digits of either case, an even number of them
+abbrev pub salt_of : ℕ → List ℕ → Option (List ℕ)
+salt_of most_digits word =
     if is_text (codes "-") word then Some []
-    else if nat_le 2 (length word) && nat_le (length word) 512 then result_ok (decode_of word)
+    else if nat_le 2 (length word) && nat_le (length word) most_digits then result_ok (decode_of word)
     else None
 
 -- a device: 1 to 255 visible bytes
@@ -41,11 +46,21 @@ root_of None salt device = None
 root_of (Some size) None device = None
 root_of (Some size) (Some salt) device = if is_device device then Some (root size salt device) else None
 
--- the root that three words ask for: the size of a block, the salt and the device
+-- the root that three words ask for: the size of a block, the salt of at most 256 bytes and the device
 abbrev pub root_by : List ℕ → List ℕ → List ℕ → Option Asked
-root_by size salt device = root_of (block_size_of size) (salt_of salt) device
+root_by size salt device = root_of (block_size_of size) (salt_of 512 salt) device
 
--- what the words ask for: one word `replay` or `lint`, or `root` and three words
+-- a file is measured where both are right
+abbrev pub measure_of : Option ℕ → Option (List ℕ) → Option Asked
+measure_of None salt = None
+measure_of (Some size) None = None
+measure_of (Some size) (Some salt) = Some (measure size salt)
+
+-- what two words ask to be measured with: the size of a block and the salt of at most 32 bytes
+abbrev pub measure_by : List ℕ → List ℕ → Option Asked
+measure_by size salt = measure_of (file_block_size_of size) (salt_of 64 salt)
+
+-- what the words ask for: one word `replay` or `lint`, `measure` and two words, or `root` and three words
 abbrev pub asked_by : List (List ℕ) → Option Asked
 asked_by [] = None
 asked_by (word ∷ []) =
@@ -53,7 +68,7 @@ asked_by (word ∷ []) =
     else if is_text (codes "lint") word then Some lint
     else None
 asked_by (word ∷ size ∷ []) = None
-asked_by (word ∷ size ∷ salt ∷ []) = None
+asked_by (word ∷ size ∷ salt ∷ []) = if is_text (codes "measure") word then measure_by size salt else None
 asked_by (word ∷ size ∷ salt ∷ device ∷ []) = if is_text (codes "root") word then root_by size salt device else None
 asked_by (word ∷ size ∷ salt ∷ device ∷ next ∷ words) = None
 
@@ -63,6 +78,7 @@ reads_source None = false
 reads_source (Some replay) = true
 reads_source (Some lint) = true
 reads_source (Some (root size salt device)) = false
+reads_source (Some (measure size salt)) = true
 
 -- devices are asked: only for a root
 abbrev pub asks_devices : Option Asked → Bool
@@ -70,6 +86,7 @@ asks_devices None = false
 asks_devices (Some replay) = false
 asks_devices (Some lint) = false
 asks_devices (Some (root size salt device)) = true
+asks_devices (Some (measure size salt)) = false
 
 -- done: where the input is told, or for a root what the devices hold, what it is answered with was written
 abbrev pub WritesDone : Option Asked → Option (List ℕ) → Option Contents → Option (List ℕ) → Option (List ℕ) → Type 0
@@ -78,6 +95,8 @@ WritesDone (Some replay) input held before after = IfSome input (λ bytes. Write
 WritesDone (Some lint) input held before after = IfSome input (λ bytes. Writes (IsLinted bytes) before after)
 WritesDone (Some (root size salt device)) input held before after =
     IfSome held (λ items. Writes (IsRooted items size salt device) before after)
+WritesDone (Some (measure size salt)) input held before after =
+    IfSome input (λ bytes. Writes (IsMeasured bytes size salt) before after)
 
 -- refused: where the input is told, or for a root what the devices hold, why it is refused was written
 abbrev pub WritesRefused : Option Asked → Option (List ℕ) → Option Contents → Option (List ℕ) → Option (List ℕ) → Type 0
@@ -86,6 +105,8 @@ WritesRefused (Some replay) input held before after = IfSome input (λ bytes. Wr
 WritesRefused (Some lint) input held before after = IfSome input (λ bytes. Writes (IsLintRefusal bytes) before after)
 WritesRefused (Some (root size salt device)) input held before after =
     IfSome held (λ items. Writes (IsRootRefusal items size device) before after)
+WritesRefused (Some (measure size salt)) input held before after =
+    IfSome input (λ bytes. Writes (IsMeasureRefusal bytes) before after)
 
 -- cut off: where the input is told, or for a root what the devices hold, some first bytes of its answer were written
 abbrev pub WritesSome : Option Asked → Option (List ℕ) → Option Contents → Option (List ℕ) → Option (List ℕ) → Type 0
@@ -97,3 +118,6 @@ WritesSome (Some lint) input held before after =
 WritesSome (Some (root size salt device)) input held before after =
     IfSome held (λ items. WritesPrefix (λ text. IsRooted items size salt device text
     ⊎ IsRootRefusal items size device text) before after)
+WritesSome (Some (measure size salt)) input held before after =
+    IfSome input (λ bytes. WritesPrefix (λ text. IsMeasured bytes size salt text
+    ⊎ IsMeasureRefusal bytes text) before after)

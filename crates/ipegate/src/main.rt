@@ -1,11 +1,12 @@
 //! `ipegate` replays a request file against the gate, and prints what the gate answers. It lints a policy too, and
-//! tells the root of a data image.
+//! tells the root of a data image and the digest of a file.
 //!
 //! [`run`] is the whole program over a source, a sink and devices that are handed in. `main` hands it the standard
 //! streams and the files of the system.
 #![tactic(auto)]
 
 mod linter;
+mod measuring;
 mod rooting;
 mod run;
 mod words;
@@ -13,6 +14,7 @@ mod words;
 use blk_device::FileDevices;
 use ipe_words::{Status, StdSink, StdSource};
 pub use linter::lint;
+pub use measuring::measure;
 pub use rooting::{Refusal, root};
 pub use run::run;
 use std::env;
@@ -50,6 +52,8 @@ mod limit_tests;
 mod lint_tests;
 #[cfg(test)]
 mod mark_tests;
+#[cfg(test)]
+mod measure_tests;
 #[cfg(test)]
 mod replay_tests;
 #[cfg(test)]

@@ -6,7 +6,7 @@ ghost use Rattle.ipegate.specs.Words.{asked_by, asks_devices, reads_source, Writ
 
 use crate::lint;
 use crate::linter::too_long;
-use crate::words::root_by_words;
+use crate::words::{measure_by_words, root_by_words};
 use blk_device::Devices;
 use ipe_replay::replay;
 use ipe_script::{ScriptError, ScriptKind, parse_requests};
@@ -19,9 +19,10 @@ const MOST_INPUT: u64 = 16_777_216;
 /// The program: what its words ask, from the source and the devices to the sink.
 ///
 /// With the one word `replay` or `lint` the source is read to its end, and the transcript of its requests, or what the
-/// linter says of its policy, or one line that says why the input is refused, is written. With `root`, the size of a
-/// block, a salt and a device, the root of the device's image is written, or one line that says why the device is
-/// refused. All of it is made before the first byte is written.
+/// linter says of its policy, or one line that says why the input is refused, is written. With `measure`, the size of a
+/// block and a salt the source is read to its end, and its file digest is written, or one line that says that it is
+/// too long. With `root`, the size of a block, a salt and a device, the root of the device's image is written, or one
+/// line that says why the device is refused. All of it is made before the first byte is written.
 pub fn run<S: Source, K: Sink, D: Devices>(
     alloc: Global,
     words: &Vec<String>,
@@ -65,6 +66,9 @@ pub fn run<S: Source, K: Sink, D: Devices>(
     match words.as_slice() {
         [word] if word.as_str() == "replay" => run_replay(alloc, source, sink),
         [word] if word.as_str() == "lint" => lint(alloc, source, sink),
+        [word, size, salt] if word.as_str() == "measure" => {
+            measure_by_words(alloc, size.as_bytes(), salt.as_bytes(), source, sink)
+        }
         [word, size, salt, device] if word.as_str() == "root" => root_by_words(
             alloc,
             size.as_bytes(),

@@ -1,18 +1,27 @@
-ghost use Rattle.std.specs.Prelude.{◌≡◌, ◌≢◌, ◌≤◌, ◌↔◌, ◌&&◌, nat_le, false, None, Some, Option, List, ℕ, length};
-ghost use Rattle.std.specs.Prelude.{IfSome, IsTrue};
+ghost use Rattle.std.specs.Prelude.{◌≡◌, ◌≢◌, ◌≤◌, ◌*◌, ◌↔◌, ◌&&◌, nat_le, false, None, Some, Option, List, ℕ, []};
+ghost use Rattle.std.specs.Prelude.{length, IfSome, IsTrue};
 ghost use Rattle.std.specs.List.{list_all};
 ghost use Rattle.ipe_words.specs.Count.{Rose};
+ghost use Rattle.blk_device.specs.Contents.{Contents};
 ghost use Rattle.dmv_tree.specs.Blocks.{is_block_size};
+ghost use Rattle.fsv_tree.specs.Blocks.{is_block_size as is_file_block_size};
 ghost use Rattle.ipe_policy.specs.Words.{is_visible};
-ghost use Rattle.ipegate.specs.Words.{asks_devices, block_size_of, is_device, root_by, salt_of};
+ghost use Rattle.ipegate.specs.Words.{asks_devices, block_size_of, file_block_size_of, is_device, measure_by};
+ghost use Rattle.ipegate.specs.Words.{reads_source, root_by, salt_of};
 ghost use Rattle.ipegate.specs.Words.{WritesDone, WritesRefused, WritesSome};
 
-use crate::root;
+use crate::{measure, root};
 use arrayvec::ArrayVec;
 use blk_device::Devices;
-use ipe_words::{Sink, Status};
+use ipe_words::{Sink, Source, Status};
 use std::alloc::Global;
 use std::marker::Model;
+
+/// The most digits of the salt of a device's tree.
+const MOST_DEVICE_DIGITS: usize = 512;
+
+/// The most digits of the salt of a file's tree.
+const MOST_FILE_DIGITS: usize = 64;
 
 // The salt of a tree.
 #[derive(Drop)]
@@ -37,6 +46,42 @@ impl Salt {
     {
         self.bytes.as_slice()
     }
+}
+
+/// What `measure` writes of the source, by its two words: the size of a block and the salt.
+pub(crate) fn measure_by_words<S: Source, K: Sink>(
+    alloc: Global,
+    block_size: &[u8],
+    salt: &[u8],
+    source: &mut S,
+    sink: &mut K,
+) -> Status
+    ensures usage { (result ≡ Status.Usage) ↔ (measure_by block_size.now salt.now ≡ None) }
+    ensures idle { result ≡ Status.Usage → (source.new ≡ source.old) × (sink.new ≡ sink.old) }
+    ensures source_stays { reads_source (measure_by block_size.now salt.now) ≡ false → source.new ≡ source.old }
+    ensures done_read { result ≡ Status.Done → IfSome (S.remaining source.old) (λ input. S.remaining source.new ≡ Some []) }
+    ensures done { result ≡ Status.Done → (held : Option Contents) →
+        WritesDone (measure_by block_size.now salt.now)
+        (S.remaining source.old) held (K.written sink.old) (K.written sink.new) }
+    ensures refused { result ≡ Status.Refused → (held : Option Contents) →
+        WritesRefused (measure_by block_size.now salt.now)
+        (S.remaining source.old) held (K.written sink.old) (K.written sink.new) }
+    ensures read_fault { result ≡ Status.ReadFault → Rose (S.faults source.old) (S.faults source.new) }
+    ensures write_fault { result ≡ Status.WriteFault → Rose (K.faults sink.old) (K.faults sink.new) }
+    ensures write_prefix { result ≡ Status.WriteFault → (held : Option Contents) →
+        WritesSome (measure_by block_size.now salt.now)
+        (S.remaining source.old) held (K.written sink.old) (K.written sink.new) }
+    ensures unread { result ≡ Status.ReadFault → sink.new ≡ sink.old }
+    ensures no_memory { result ≡ Status.NoMemory → sink.new ≡ sink.old }
+    ensures no_other { (result ≢ Status.No) × (result ≢ Status.DeviceFault) }
+{
+    let Some(block_size) = file_block_size_of(block_size) else {
+        return Status::Usage;
+    };
+    let Some(salt) = salt_of(salt, MOST_FILE_DIGITS) else {
+        return Status::Usage;
+    };
+    measure(alloc, block_size, salt.as_slice(), source, sink)
 }
 
 /// What `root` writes of a device, by its three words: the size of a block, the salt and the device.
@@ -71,7 +116,7 @@ pub(crate) fn root_by_words<K: Sink, D: Devices>(
     let Some(block_size) = block_size_of(block_size) else {
         return Status::Usage;
     };
-    let Some(salt) = salt_of(salt) else {
+    let Some(salt) = salt_of(salt, MOST_DEVICE_DIGITS) else {
         return Status::Usage;
     };
     if !is_device(device) {
@@ -87,6 +132,13 @@ fn block_size_of(word: &[u8]) -> Option<u32>
     if word == b"512".as_slice() {
         return Some(512);
     }
+    file_block_size_of(word)
+}
+
+fn file_block_size_of(word: &[u8]) -> Option<u32>
+    ensures size { result ≡ file_block_size_of word.now }
+    ensures rule { IfSome result (λ size. IsTrue (is_file_block_size size)) }
+{
     if word == b"1024".as_slice() {
         return Some(1024);
     }
@@ -99,13 +151,15 @@ fn block_size_of(word: &[u8]) -> Option<u32>
     None
 }
 
-fn salt_of(word: &[u8]) -> Option<Salt>
-    ensures { result ≡ salt_of word.now }
+fn salt_of(word: &[u8], most_digits: usize) -> Option<Salt>
+    requires { most_digits ≤ 512 }
+    ensures salt { result ≡ salt_of most_digits word.now }
+    ensures few { IfSome result (λ salt. 2 * length salt ≤ most_digits) }
 {
     if word == b"-".as_slice() {
         return Some(Salt { bytes: held(&[]) });
     }
-    if word.len() < 2 || word.len() > 512 {
+    if word.len() < 2 || word.len() > most_digits {
         return None;
     }
     let mut buffer = [0u8; 256];
