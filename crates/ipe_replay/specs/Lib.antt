@@ -1,3 +1,4 @@
 pub mod Room
 pub mod Told
 pub mod Ruled
+pub mod Digests

@@ -9,8 +9,9 @@ ghost use Rattle.ipe_records.specs.Records.{access_of};
 ghost use Rattle.ipe_history.specs.Order.{after_hook, after_task, context_of, marks_of, object_of, task_reply};
 ghost use Rattle.ipe_history.specs.Transcript.{entry_of};
 ghost use Rattle.ipe_replay.specs.Room.{HasRoom};
-ghost use Rattle.ipe_replay.specs.Ruled.{IsRuledBy, parts_in};
+ghost use Rattle.ipe_replay.specs.Ruled.{IsImageOf, IsKept, IsRuledBy, parts_in};
 
+use crate::running::Running;
 use ipe_audit::{LineBytes, access_line};
 use ipe_core::{CoreRuling, Entry as Loaded, Event, Reply, State, TrustList, step};
 use ipe_image::{CompileError, Hit, Image, SliceReader, compile, decide_words};
@@ -45,10 +46,14 @@ fn object_of(requests: &Requests, file: Option<usize>) -> Result<Object, AllocEr
     }
 }
 
-// A loaded policy isn't too wide.
-fn image_of(alloc: Global, entry: &Loaded) -> Result<Image, AllocError>
+// The image that is kept, or else the policy's, compiled. A loaded policy isn't too wide.
+fn image_of(alloc: Global, kept: Option<Image>, entry: &Loaded) -> Result<Image, AllocError>
+    requires { IsImageOf entry.now kept }
     ensures { IfOk result (λ image. image_in (filled 4096 image) ≡ Some (parts_in entry.now)) }
 {
+    if let Some(image) = kept {
+        return Ok(image);
+    }
     match compile(alloc, &entry.policy, entry.serial) {
         Ok(image) => Ok(image),
         Err(CompileError::NoMemory) => Err(AllocError),
@@ -56,13 +61,23 @@ fn image_of(alloc: Global, entry: &Loaded) -> Result<Image, AllocError>
     }
 }
 
-// What a policy's image answers.
-fn hit_of(alloc: Global, entry: &Loaded, op: Op, context: &Context) -> Result<Hit, AllocError>
-    ensures { IfOk result (IsRuledBy entry.now op context.now) }
+// What a policy's image answers. The image is kept for the next record.
+fn hit_of(
+    alloc: Global,
+    kept: &mut Option<Image>,
+    entry: &Loaded,
+    op: Op,
+    context: &Context,
+) -> Result<Hit, AllocError>
+    requires { IsImageOf entry.now kept.old }
+    ensures hit { IfOk result (IsRuledBy entry.now op context.now) }
+    ensures kept { IsImageOf entry.now kept.new }
 {
-    let image = image_of(alloc, entry)?;
+    let image = image_of(alloc, kept.take(), entry)?;
     let mut reader = SliceReader::new(image.words());
-    Ok(decide_words(&mut reader, op, context))
+    let hit = decide_words(&mut reader, op, context);
+    *kept = Some(image);
+    Ok(hit)
 }
 
 // A denial is recorded, also where it isn't enforced; what is allowed where success_audit is on.
@@ -77,12 +92,16 @@ fn is_due(state: &State, entry: &Loaded, op: Op, context: &Context) -> bool
 fn access_of(
     alloc: Global,
     state: &State,
+    kept: &mut Option<Image>,
     request: Request,
     subject: &Subject,
     object: &Object,
     context: &Context,
 ) -> Result<Option<LineBytes>, AllocError>
-    ensures { IfOk result (λ access. access ≡ access_of state.now request subject.now object.now context.now) }
+    requires { IsKept state.now.policies kept.old }
+    ensures access { IfOk result
+        (λ access. access ≡ access_of state.now request subject.now object.now context.now) }
+    ensures kept { IsKept state.now.policies kept.new }
 {
     let registry = state.registry();
     let (Some(op), Some(entry)) = (request.op(), registry.active_entry()) else {
@@ -91,7 +110,7 @@ fn access_of(
     if !is_due(state, entry, op, context) {
         return Ok(None);
     }
-    let hit = hit_of(alloc, entry, op, context)?;
+    let hit = hit_of(alloc, kept, entry, op, context)?;
     let line = access_line(
         alloc,
         op,
@@ -117,6 +136,7 @@ fn claimed(
     requires room { HasRoom state.old 1 }
     ensures ruling { IfOk result (λ ruling. ruling ≡ ruling_for state.old (evaluated_op request) context) }
     ensures after { OnOk result (state.new ≡ after_claim state.old 0 (evaluated_op request)) }
+    ensures policies { state.new.policies ≡ state.old.policies }
 {
     let event = Event::Claim {
         pass: 0,
@@ -144,6 +164,7 @@ fn claim(
     requires room { HasRoom state.old 1 }
     ensures ruling { IfOk result (λ ruling. ruling ≡ ruling_for state.old (evaluated_op request) context) }
     ensures after { OnOk result (state.new ≡ after_hook (last_verdict signer.now) state.old (evaluated_op request)) }
+    ensures policies { state.new.policies ≡ state.old.policies }
 {
     let ruling = claimed(alloc, signer, state, request, subject, object, context)?;
     if ruling.serial.is_some() {
@@ -152,31 +173,47 @@ fn claim(
     Ok(ruling)
 }
 
-// The entry of a hook.
+// The entry of a hook. A hook changes no policy, so the image stays.
 pub(crate) fn hook_entry(
     alloc: Global,
     signer: &TrustList,
     requests: &Requests,
-    state: &mut State,
+    running: &mut Running,
     line: u32,
     request: Request,
     subject: &Subject,
     file: Option<usize>,
 ) -> Result<Entry, AllocError>
     requires signer { signer.now ≡ marks_of requests.now }
-    requires room { HasRoom state.old 1 }
+    requires room { HasRoom running.old 1 }
     ensures entry { IfOk result (λ made. made ≡ entry_of (record { line = line; task = Hook request subject.now file })
-        (task_reply requests.now state.old (Hook request subject.now file))) }
-    ensures after { OnOk result (state.new ≡ after_task requests.now state.old (Hook request subject.now file)) }
+        (task_reply requests.now running.old (Hook request subject.now file))) }
+    ensures after { OnOk result (running.new ≡ after_task requests.now running.old (Hook request subject.now file)) }
 {
     let object = object_of(requests, file)?;
     let context = context_of(file);
-    let access = access_of(alloc, state, request, subject, &object, &context)?;
+    let access = access_of(
+        alloc,
+        &running.state,
+        &mut running.image,
+        request,
+        subject,
+        &object,
+        &context,
+    )?;
     let asker = Subject {
         pid: subject.pid,
         comm: subject.comm.clone()?,
     };
-    let ruling = claim(alloc, signer, state, request, asker, object, context)?;
+    let ruling = claim(
+        alloc,
+        signer,
+        &mut running.state,
+        request,
+        asker,
+        object,
+        context,
+    )?;
     Ok(Entry::Hook {
         line,
         worker: 1,

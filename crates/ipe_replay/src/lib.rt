@@ -11,6 +11,7 @@ mod marks;
 mod parts;
 mod phases;
 mod records;
+mod running;
 
 pub use phases::replay;
 

@@ -1,7 +1,8 @@
 ghost use Rattle.std.specs.Prelude.{◌≡◌, IfOk};
 ghost use Rattle.sha2.specs.Sha256.{sha256};
-ghost use Rattle.ipe_script.specs.Script.{bytes_of};
+ghost use Rattle.ipe_script.specs.Script.{Script, bytes_of};
 ghost use Rattle.ipe_history.specs.Order.{digest_of, mark_of, marks_of, purpose_of, says};
+ghost use Rattle.ipe_replay.specs.Digests.{text_digests};
 
 use ipe_core::{Mark, Marks, Purpose, TrustList, Verdict};
 use ipe_policy::DigestBytes;
@@ -46,32 +47,50 @@ fn text_digest(text: &[u8]) -> DigestBytes
     DigestBytes::read(&digest).unwrap()
 }
 
-fn digest_of(requests: &Requests, digest: &MarkDigest) -> Result<DigestBytes, AllocError>
-    ensures { IfOk result (λ bytes. bytes ≡ digest_of requests.now digest.now) }
+// The digest of each text.
+fn text_digests(alloc: Global, requests: &Requests) -> Result<Vec<DigestBytes>, AllocError>
+    ensures { IfOk result (λ digests. digests.items ≡ text_digests requests.now) }
+{
+    let mut digests = Vec::with_capacity(alloc, requests.texts.len())?;
+    for text in &requests.texts {
+        digests.push(text_digest(text.bytes.as_slice()))?;
+    }
+    Ok(digests)
+}
+
+// A place beyond the texts has the digest of no bytes.
+fn digest_of(digests: &[DigestBytes], digest: &MarkDigest) -> Result<DigestBytes, AllocError>
+    ensures { (script : Script) → digests.now ≡ text_digests script →
+        IfOk result (λ bytes. bytes ≡ digest_of script digest.now) }
 {
     match digest {
-        MarkDigest::Text(place) => Ok(text_digest(bytes_of(requests, *place))),
+        MarkDigest::Text(place) => match digests.get(*place) {
+            Some(bytes) => bytes.clone(),
+            None => Ok(text_digest(&[])),
+        },
         MarkDigest::Hex(bytes) => bytes.clone(),
     }
 }
 
-fn mark_of(requests: &Requests, mark: &MarkLine) -> Result<Mark, AllocError>
-    ensures { IfOk result (λ made. made ≡ mark_of requests.now mark.now) }
+fn mark_of(digests: &[DigestBytes], mark: &MarkLine) -> Result<Mark, AllocError>
+    ensures { (script : Script) → digests.now ≡ text_digests script →
+        IfOk result (λ made. made ≡ mark_of script mark.now) }
 {
     Ok(Mark {
         purpose: purpose_of(mark.purpose),
         verdict: says(mark.verdict),
-        digest: digest_of(requests, &mark.digest)?,
+        digest: digest_of(digests, &mark.digest)?,
     })
 }
 
-// The signer that a request file's marks are.
+// The signer that a request file's marks are. Each text is hashed once, however many marks name it.
 pub(crate) fn signer_of(alloc: Global, requests: &Requests) -> Result<TrustList, AllocError>
     ensures { IfOk result (λ signer. signer ≡ marks_of requests.now) }
 {
+    let digests = text_digests(alloc, requests)?;
     let mut marks = Vec::new(alloc);
     for mark in &requests.marks {
-        marks.push(mark_of(requests, mark)?)?;
+        marks.push(mark_of(&digests, mark)?)?;
     }
     Ok(TrustList::new(Marks::from_vec(marks)))
 }

@@ -10,6 +10,7 @@ use crate::commands::{read_entry, write_entry};
 use crate::hooks::hook_entry;
 use crate::marks::signer_of;
 use crate::parts::printed_parts;
+use crate::running::Running;
 use ipe_core::{State, TrustList};
 use ipe_script::{Phase, PhaseLine, Requests, Task};
 use ipe_transcript::{Entry, print_entry};
@@ -20,27 +21,30 @@ fn line_entry(
     alloc: Global,
     signer: &TrustList,
     requests: &Requests,
-    state: &mut State,
+    running: &mut Running,
     line: &PhaseLine,
 ) -> Result<Entry, AllocError>
     requires signer { signer.now ≡ marks_of requests.now }
-    requires room { HasRoom state.old 1 }
-    ensures entry { IfOk result (λ entry. entry ≡ entry_of line.now (line_reply requests.now state.old line.now)) }
-    ensures after { OnOk result (state.new ≡ after_line requests.now state.old line.now) }
+    requires room { HasRoom running.old 1 }
+    ensures entry { IfOk result (λ entry. entry ≡ entry_of line.now (line_reply requests.now running.old line.now)) }
+    ensures after { OnOk result (running.new ≡ after_line requests.now running.old line.now) }
 {
     let number = line.line;
     match &line.task {
         Task::Write { may, node, content } => {
             let node = node.as_slice();
+            // A command may change the active policy.
+            running.image = None;
+            let state = &mut running.state;
             write_entry(alloc, signer, requests, state, number, *may, node, content)
         }
-        Task::Read { node } => read_entry(alloc, state, number, node.as_slice()),
+        Task::Read { node } => read_entry(alloc, &running.state, number, node.as_slice()),
         Task::Hook {
             request,
             subject,
             file,
         } => hook_entry(
-            alloc, signer, requests, state, number, *request, subject, *file,
+            alloc, signer, requests, running, number, *request, subject, *file,
         ),
     }
 }
@@ -50,17 +54,17 @@ fn replay_line(
     alloc: Global,
     signer: &TrustList,
     requests: &Requests,
-    state: &mut State,
+    running: &mut Running,
     line: &PhaseLine,
     out: &mut Vec<u8>,
 ) -> Result<(), AllocError>
     requires signer { signer.now ≡ marks_of requests.now }
-    requires room { HasRoom state.old 1 }
-    ensures out { OnOk result
-        (out.new.items ≡ out.old.items ++ entry_text (entry_of line.now (line_reply requests.now state.old line.now))) }
-    ensures after { OnOk result (state.new ≡ after_line requests.now state.old line.now) }
+    requires room { HasRoom running.old 1 }
+    ensures out { OnOk result (out.new.items ≡ out.old.items
+        ++ entry_text (entry_of line.now (line_reply requests.now running.old line.now))) }
+    ensures after { OnOk result (running.new ≡ after_line requests.now running.old line.now) }
 {
-    let entry = line_entry(alloc, signer, requests, state, line)?;
+    let entry = line_entry(alloc, signer, requests, running, line)?;
     print_entry(alloc, out, &entry)
 }
 
@@ -68,17 +72,17 @@ fn replay_lines(
     alloc: Global,
     signer: &TrustList,
     requests: &Requests,
-    state: &mut State,
+    running: &mut Running,
     lines: &[PhaseLine],
     out: &mut Vec<u8>,
 ) -> Result<(), AllocError>
     requires signer { signer.now ≡ marks_of requests.now }
-    requires room { HasRoom state.old (length lines.now) }
-    ensures out { OnOk result (out.new.items ≡ out.old.items ++ lines_text requests.now state.old lines.now) }
-    ensures after { OnOk result (state.new ≡ after_lines requests.now state.old lines.now) }
+    requires room { HasRoom running.old (length lines.now) }
+    ensures out { OnOk result (out.new.items ≡ out.old.items ++ lines_text requests.now running.old lines.now) }
+    ensures after { OnOk result (running.new ≡ after_lines requests.now running.old lines.now) }
 {
     for line in lines {
-        replay_line(alloc, signer, requests, state, line, out)?;
+        replay_line(alloc, signer, requests, running, line, out)?;
     }
     Ok(())
 }
@@ -87,20 +91,20 @@ fn replay_phase(
     alloc: Global,
     signer: &TrustList,
     requests: &Requests,
-    state: &mut State,
+    running: &mut Running,
     phase: &Phase,
     out: &mut Vec<u8>,
 ) -> Result<(), AllocError>
     requires signer { signer.now ≡ marks_of requests.now }
-    requires room { HasRoom state.old (length phase.now) }
+    requires room { HasRoom running.old (length phase.now) }
     ensures out { OnOk result
-        (out.new.items ≡ out.old.items ++ lines_text requests.now state.old (printed phase.now)) }
-    ensures after { OnOk result (state.new ≡ after_lines requests.now state.old (printed phase.now)) }
+        (out.new.items ≡ out.old.items ++ lines_text requests.now running.old (printed phase.now)) }
+    ensures after { OnOk result (running.new ≡ after_lines requests.now running.old (printed phase.now)) }
 {
     let (early, commands, late) = printed_parts(phase.lines.as_slice());
-    replay_lines(alloc, signer, requests, state, early, out)?;
-    replay_lines(alloc, signer, requests, state, commands, out)?;
-    replay_lines(alloc, signer, requests, state, late, out)
+    replay_lines(alloc, signer, requests, running, early, out)?;
+    replay_lines(alloc, signer, requests, running, commands, out)?;
+    replay_lines(alloc, signer, requests, running, late, out)
 }
 
 fn print_heading(alloc: Global, out: &mut Vec<u8>, number: usize) -> Result<(), AllocError>
@@ -114,18 +118,18 @@ fn replay_phases(
     alloc: Global,
     signer: &TrustList,
     requests: &Requests,
-    state: &mut State,
+    running: &mut Running,
     out: &mut Vec<u8>,
 ) -> Result<(), AllocError>
     requires signer { signer.now ≡ marks_of requests.now }
-    requires room { HasRoom state.old (sum_by length requests.now.phases) }
+    requires room { HasRoom running.old (sum_by length requests.now.phases) }
     ensures { OnOk result (out.new.items ≡ out.old.items
-        ++ phases_text requests.now 1 state.old (map printed requests.now.phases)) }
+        ++ phases_text requests.now 1 running.old (map printed requests.now.phases)) }
 {
     for (place, phase) in requests.phases.iter().enumerate() {
         let number = place + 1;
         print_heading(alloc, out, number)?;
-        replay_phase(alloc, signer, requests, state, phase, out)?;
+        replay_phase(alloc, signer, requests, running, phase, out)?;
     }
     Ok(())
 }
@@ -137,9 +141,12 @@ pub fn replay(alloc: Global, requests: &Requests) -> Result<Vec<u8>, AllocError>
     ensures { IfOk result (λ text. text.items ≡ transcript requests.now (map printed requests.now.phases)) }
 {
     let signer = signer_of(alloc, requests)?;
-    let mut state = State::new(alloc, 1)?;
+    let mut running = Running {
+        state: State::new(alloc, 1)?,
+        image: None,
+    };
     let mut out = b"ipe-transcript 1\n".to_vec(alloc)?;
-    replay_phases(alloc, &signer, requests, &mut state, &mut out)?;
+    replay_phases(alloc, &signer, requests, &mut running, &mut out)?;
     out.extend_from_slice(b"end\n")?;
     Ok(out)
 }

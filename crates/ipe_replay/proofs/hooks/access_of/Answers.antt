@@ -9,8 +9,8 @@ use Rattle.ipe_replay.specs.Ruled.{parts_in}
 use Rattle.ipe_replay.proofs.HookLemmas.{access_told}
 use Rattle.ipe_replay.proofs.hooks.access_of.Goals as goal
 
-pub returns : goal.returns
-returns c =
+pub returns-clause-access : goal.returns-clause-access
+returns-clause-access c =
     let m = c.args.state.now in
     let op = c.in-Some-Some.op in
     let entry = c.in-Some-Some.entry.now in
@@ -18,7 +18,7 @@ returns c =
     let subject = c.args.subject.now in
     let object = c.args.object.now in
     let context = c.args.context.now in
-    let ruled = c.in_ok-hit.ensures in
+    let ruled = c.in_ok-hit.ensures.hit in
     let asked : evaluated_op c.args.request ≡ Some op = cc in
     let found : active_entry c.registry-registry.result.now ≡ Some entry =
     sym c.active_entry.ensures ∙ ap option_copied c.in-Some-Some.is-1 in

@@ -9,10 +9,10 @@ loop-line-preserved c =
     let lines = c.args.lines.now in
     let i = c.loop-line.line-index in
     let lt : i < length lines = omega arith in
-    let text = lines_text-drop script c.loop-line.state lines i c.line-item.result lt c.line-item.is in
-    let machine = after_lines-drop script c.loop-line.state lines i c.line-item.result lt c.line-item.is in
-    let room = room-after_line script c.loop-line.state c.line-item.result (length lines - (i + 1))
-    (room-fewer c.loop-line.state (suc (length lines - (i + 1))) (length lines - i) (omega arith)
+    let text = lines_text-drop script c.loop-line.running lines i c.line-item.result lt c.line-item.is in
+    let machine = after_lines-drop script c.loop-line.running lines i c.line-item.result lt c.line-item.is in
+    let room = room-after_line script c.loop-line.running c.line-item.result (length lines - (i + 1))
+    (room-fewer c.loop-line.running (suc (length lines - (i + 1))) (length lines - i) (omega arith)
     c.loop-line.invariant.room) in
     record {
       printed = rw (c.in_ok-replay_line.ensures.out, c.in_ok-replay_line.ensures.after, append_assoc, ← text)

@@ -17,7 +17,7 @@ replay_lines-requires-2-clause-room c =
     let same : c.as_slice.result.now ≡ c.args.phase.now = cc in
     let all : length early + length commands + length late ≡ length c.args.phase.now = c.printed_parts.ensures.all
     ∙ ap length same in
-    let room = room-parts script c.args.state.now early commands late (length c.args.phase.now) all c.requires.room in
+    let room = room-parts script c.args.running.now early commands late (length c.args.phase.now) all c.requires.room in
     rw c.in_ok-replay_lines.ensures.after room.0
 
 pub replay_lines-requires-3-clause-room : goal.replay_lines-requires-3-clause-room
@@ -29,7 +29,7 @@ replay_lines-requires-3-clause-room c =
     let same : c.as_slice.result.now ≡ c.args.phase.now = cc in
     let all : length early + length commands + length late ≡ length c.args.phase.now = c.printed_parts.ensures.all
     ∙ ap length same in
-    let room = room-parts script c.args.state.now early commands late (length c.args.phase.now) all c.requires.room in
+    let room = room-parts script c.args.running.now early commands late (length c.args.phase.now) all c.requires.room in
     rw (c.in_ok-replay_lines-2.ensures.after, c.in_ok-replay_lines.ensures.after) room.1
 
 pub returns-clause-out : goal.returns-clause-out
@@ -42,12 +42,12 @@ returns-clause-out c =
     let order : early ++ commands ++ late ≡ printed c.args.phase.now = c.printed_parts.ensures.order
     ∙ ap printed same in
     on_ok_weaker c.replay_lines-3.result (λ last.
-    text-parts script c.args.state.now c.replay_lines.new.state c.replay_lines-2.new.state early commands late
+    text-parts script c.args.running.now c.replay_lines.new.running c.replay_lines-2.new.running early commands late
     (c.args.out.now.items) (c.replay_lines.new.out.items) (c.replay_lines-2.new.out.items)
     (c.replay_lines-3.new.out.items)
     c.in_ok-replay_lines.ensures.after c.in_ok-replay_lines-2.ensures.after
     c.in_ok-replay_lines.ensures.out c.in_ok-replay_lines-2.ensures.out last
-    ∙ ap (λ (part : List PhaseLine). c.args.out.now.items ++ lines_text script c.args.state.now part) order)
+    ∙ ap (λ (part : List PhaseLine). c.args.out.now.items ++ lines_text script c.args.running.now part) order)
     c.replay_lines-3.ensures.out
 
 pub returns-clause-after : goal.returns-clause-after
@@ -60,7 +60,7 @@ returns-clause-after c =
     let order : early ++ commands ++ late ≡ printed c.args.phase.now = c.printed_parts.ensures.order
     ∙ ap printed same in
     on_ok_weaker c.replay_lines-3.result (λ last.
-    machine-parts script c.args.state.now
-    c.replay_lines.new.state c.replay_lines-2.new.state c.replay_lines-3.new.state early commands late
+    machine-parts script c.args.running.now
+    c.replay_lines.new.running c.replay_lines-2.new.running c.replay_lines-3.new.running early commands late
     c.in_ok-replay_lines.ensures.after c.in_ok-replay_lines-2.ensures.after last
-    ∙ ap (after_lines script c.args.state.now) order) c.replay_lines-3.ensures.after
+    ∙ ap (after_lines script c.args.running.now) order) c.replay_lines-3.ensures.after

@@ -15,7 +15,7 @@ replay_phase-requires-clause-room c =
     let phases = c.deref-phase-items.result.now in
     let lt : c.loop-place.place < length phases = omega arith in
     let sum = sum-drop phases c.loop-place.place c.phase-item.result lt c.phase-item.is in
-    room-fewer c.loop-place.state (length c.phase-item.result) (sum_by length (drop c.loop-place.place phases))
+    room-fewer c.loop-place.running (length c.phase-item.result) (sum_by length (drop c.loop-place.place phases))
     (omega (arith, sum)) c.loop-place.invariant.room
 
 pub loop-place-preserved : goal.loop-place-preserved
@@ -23,7 +23,7 @@ loop-place-preserved c =
     let script = c.args.requests.now in
     let phases = c.deref-phase-items.result.now in
     let i = c.loop-place.place in
-    let m = c.loop-place.state in
+    let m = c.loop-place.running in
     let x = c.phase-item.result in
     let lt : i < length phases = omega arith in
     let sum = sum-drop phases i x lt c.phase-item.is in
@@ -34,7 +34,7 @@ loop-place-preserved c =
     (room-fewer m (length part + left) (sum_by length (drop i phases)) (omega (arith, sum, printed_length x))
     c.loop-place.invariant.room) in
     let text : c.replay_phase.new.out.items ++ rest
-    ≡ c.args.out.now.items ++ phases_text script 1 c.args.state.now (map printed phases) =
+    ≡ c.args.out.now.items ++ phases_text script 1 c.args.running.now (map printed phases) =
     joined (c.loop-place.out.items) (c.print_heading.new.out.items) (c.replay_phase.new.out.items)
     (line_text (codes "phase " ++ decimal (i + 1))) (lines_text script m part) rest
     c.in_ok-print_heading.ensures c.in_ok-replay_phase.ensures.out
