@@ -1,0 +1,61 @@
+-- Hash trees that devices store.
+use Rattle.std.specs.Prelude.{◌≡◌, ℕ, zero, suc, ◌+◌, ◌*◌, ◌/◌, ◌^◌, ◌<◌, ◌≤◌, List, [], ◌∷◌, length, take, drop, Option, IfSome, All}
+use Rattle.std.specs.Fork.{slice_chunk}
+use Rattle.blk_device.specs.Contents.{Contents, HasAtLeast, content}
+use Rattle.hash_tree.specs.Shape.{IsHashBlockSize, IsHeight, blocks_above, level_blocks}
+use Rattle.hash_tree.specs.Tree.{fan_out, root, stored}
+
+-- a hash tree that a device stores: the device's name, the byte at which the tree begins there, the size of a block in
+-- bytes, how many blocks the data have, how many levels stand above them, the root and the salt
+pub record Stored : Type 0 where
+  pub device : List ℕ
+  pub start : ℕ
+  pub block_size : ℕ
+  pub blocks : ℕ
+  pub levels : ℕ
+  pub root : List ℕ
+  pub salt : List ℕ
+
+-- what numbers a stored tree has
+pub record IsStored (tree : Stored) : Type 0 where
+  pub size : IsHashBlockSize tree.block_size
+  pub some : 1 ≤ tree.blocks
+  pub few : tree.blocks ≤ 16777216
+  pub height : IsHeight (fan_out tree.block_size) tree.blocks tree.levels
+  pub low : tree.levels ≤ 3
+  pub start : tree.start < 2 ^ 62
+
+-- where the contents are told and the device is there, it has the whole tree
+abbrev pub HasTree : Option Contents → Stored → Type 0
+HasTree told tree =
+    HasAtLeast told tree.device
+    (tree.start + blocks_above (fan_out tree.block_size) tree.blocks tree.levels * tree.block_size)
+
+-- where the contents are told and a device has the name, this is true of its bytes
+abbrev pub OfBytes : Option Contents → List ℕ → (List ℕ → Type 0) → Type 0
+OfBytes told name P = IfSome told (λ items. IfSome (content name items) P)
+
+-- block number n of a stored tree, counted from its first, as the device's bytes hold it
+abbrev pub held_block : Stored → List ℕ → ℕ → List ℕ
+held_block tree bytes n = slice_chunk (drop tree.start bytes) tree.block_size n
+
+-- the hash blocks over block i of the data from a level down to the lowest, as they are held, where that level begins
+-- at this block of the tree: each next lower level begins behind the one before it
+unfoldable pub held_from : Stored → List ℕ → ℕ → ℕ → ℕ → List (List ℕ)
+held_from tree bytes i first zero = []
+held_from tree bytes i first (suc k) =
+    held_block tree bytes (first + i / fan_out tree.block_size ^ suc k)
+    ∷ held_from tree bytes i (first + level_blocks (fan_out tree.block_size) tree.blocks (suc k)) k
+
+-- the hash blocks over block i of the data, from the top level down, as they are held
+abbrev pub held_blocks : Stored → List ℕ → ℕ → List (List ℕ)
+held_blocks tree bytes i = held_from tree bytes i 0 tree.levels
+
+-- the device's bytes have the stored tree of this image where the tree begins, and the root is the image's
+pub record HoldsTreeOf (tree : Stored) (bytes : List ℕ) (image : List (List ℕ)) : Type 0 where
+  pub count : length image ≡ tree.blocks
+  pub sizes : All (λ block. length block ≡ tree.block_size) image
+  pub root : root tree.block_size tree.salt image ≡ tree.root
+  pub stored :
+      take (length (stored tree.block_size tree.salt image)) (drop tree.start bytes)
+      ≡ stored tree.block_size tree.salt image

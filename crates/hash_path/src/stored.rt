@@ -1,0 +1,36 @@
+use std::marker::Model;
+
+/// A hash tree that a device stores, and what it is checked against.
+#[derive(Clone, Copy, Debug)]
+pub struct StoredTree<'a> {
+    /// The name of the device that has the hash blocks.
+    pub device: &'a [u8],
+    /// The byte at which the tree begins there: the highest level first, block after block.
+    pub start: u64,
+    /// The size of a block in bytes.
+    pub block_size: u32,
+    /// How many blocks the data have.
+    pub blocks: u64,
+    /// How many levels stand above the data.
+    pub levels: u8,
+    /// The digest of the highest block.
+    pub root: [u8; 32],
+    /// What is hashed before each block.
+    pub salt: &'a [u8],
+}
+
+impl Model for StoredTree<'_> {
+    ghost use Rattle.hash_path.specs.Stored.{Stored};
+
+    ghost Value = { Stored };
+
+    ghost view = { λ t. record {
+      device = t.device.now;
+      start = t.start;
+      block_size = t.block_size;
+      blocks = t.blocks;
+      levels = t.levels;
+      root = t.root;
+      salt = t.salt.now;
+    } };
+}

@@ -1,0 +1,91 @@
+ghost use Rattle.blk_device.specs.Contents.{HasNone};
+ghost use Rattle.hash_path.specs.Checked.{FailsAt, IsChecked, LeadsTo};
+ghost use Rattle.hash_path.specs.Stored.{HasTree, IsStored, OfBytes, held_blocks};
+ghost use Rattle.hash_tree.specs.Path.{digest_in};
+ghost use Rattle.hash_tree.specs.Tree.{salted};
+ghost use Rattle.ipe_words.specs.Count.{Rose};
+ghost use Rattle.std.specs.Prelude.{◌≡◌, ◌+◌, ◌*◌, ◌/◌, ◌^◌, ◌<◌, ◌≤◌, ◌++◌, ◌∷◌, ℕ, [], bytes_eq, length, take, IfOk, IsErrOf, OnOk};
+
+use crate::{BlockPath, StoredTree};
+use blk_device::{DevError, Devices, VerityError, read_exact_at};
+use hash_tree::salted_digest;
+
+/// Takes the hash blocks over data block `i`, from the top level down, and says which digest they want of that block:
+/// the root, where no level stands above the data. Each is read through `buffer`, which has the size of a block, and is
+/// checked before the next one is read. What the path had before is taken away.
+///
+/// The error says which block was the first that failed, or that the device failed or isn't there; the path then ends
+/// with the block that failed, or the last one that was read.
+pub fn take_hash_blocks<D: Devices>(
+    tree: &StoredTree,
+    path: &mut BlockPath,
+    dev: &mut D,
+    i: u64,
+    buffer: &mut [u8],
+) -> Result<[u8; 32], VerityError>
+    requires tree { IsStored tree.now }
+    requires block { i < tree.now.blocks }
+    requires size { path.old.size ≡ tree.now.block_size }
+    requires room { tree.now.levels < path.old.room }
+    requires buffer { length buffer.old ≡ tree.now.block_size }
+    requires has_tree { HasTree (D.contents dev.old) tree.now }
+    ensures leads { IfOk result (λ wanted. LeadsTo tree.now i path.new.items wanted) }
+    ensures corrupt { (level b : ℕ) → IsErrOf result (VerityError.Corrupt level b) →
+        FailsAt tree.now i path.new.items level b }
+    ensures above { (level b : ℕ) → IsErrOf result (VerityError.Corrupt level b) → 0 < level }
+    ensures missing { IsErrOf result VerityError.Missing → HasNone (D.contents dev.old) tree.now.device }
+    ensures failed { IsErrOf result VerityError.DeviceFault → Rose (D.faults dev.old) (D.faults dev.new) }
+
+    // What was read is the front of what the device holds.
+    ensures held { OfBytes (D.contents dev.old) tree.now.device (λ bytes.
+        path.new.items ≡ take (length path.new.items) (held_blocks tree.now bytes i)) }
+    ensures same { D.contents dev.new ≡ D.contents dev.old }
+    ensures never_falls { D.faults dev.old ≤ D.faults dev.new }
+    ensures kept { path.new ≡ record path.old { items = path.new.items } }
+    ensures long { length buffer.new ≡ length buffer.old }
+{
+    let size = u64::from(tree.block_size);
+    let fan_out = size / 32;
+    path.clear();
+    let mut first = 0;
+    let mut wanted = tree.root;
+    for level in (1..=tree.levels).rev() {
+        let block = over(i, fan_out, level);
+        read_exact_at(dev, tree.device, tree.start + (first + block) * size, buffer).map_err(fault_of)?;
+        path.push(buffer);
+        if wanted != salted_digest(tree.salt, buffer) {
+            return Err(VerityError::Corrupt { level, block });
+        }
+        first += over(tree.blocks - 1, fan_out, level) + 1;
+        wanted = digest_in(buffer, (over(i, fan_out, level - 1) % fan_out) as usize);
+    }
+    Ok(wanted)
+}
+
+/// Adds data block `i` to the path of the hash blocks over it, which want this digest, and checks it. The only error
+/// is that it is corrupt.
+pub fn check_data_block(
+    tree: &StoredTree,
+    path: &mut BlockPath,
+    i: u64,
+    wanted: &[u8; 32],
+    block: &[u8],
+) -> Result<(), VerityError>
+    requires leads { LeadsTo tree.now i path.old.items wanted.now }
+    requires size { length block.now ≡ path.old.size }
+    requires room { tree.now.levels < path.old.room }
+    ensures ok { OnOk result (IsChecked tree.now i path.new.items block.now) }
+    ensures corrupt { (level b : ℕ) → IsErrOf result (VerityError.Corrupt level b) →
+        FailsAt tree.now i path.new.items level b }
+    ensures here { (level b : ℕ) → IsErrOf result (VerityError.Corrupt level b) → (level ≡ 0) × (b ≡ i) }
+    ensures no_fault { IsErrOf result VerityError.DeviceFault → ⊥ }
+    ensures none_missing { IsErrOf result VerityError.Missing → ⊥ }
+    ensures added { path.new ≡ record path.old { items = path.old.items ++ block.now ∷ [] } }
+{
+    path.push(block);
+    if *wanted == salted_digest(tree.salt, block) {
+        Ok(())
+    } else {
+        Err(VerityError::Corrupt { level: 0, block: i })
+    }
+}
