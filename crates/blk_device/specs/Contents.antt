@@ -1,5 +1,5 @@
 -- What devices hold, by their names.
-use Rattle.std.specs.Prelude.{◌≡◌, ℕ, ◌<◌, List, length, take, drop, Option, Some, None, IfSome, bytes_eq}
+use Rattle.std.specs.Prelude.{◌≡◌, ℕ, ◌<◌, ◌≤◌, List, length, take, drop, Option, Some, None, IfSome, bytes_eq}
 use Rattle.std.specs.Option.{option_map}
 use Rattle.std.specs.Map.{lookup}
 
@@ -32,3 +32,7 @@ CanRead told name at room =
 -- where the contents are told, a device has the name, and these are all its bytes
 abbrev pub HasContent : Option Contents → List ℕ → List ℕ → Type 0
 HasContent told name bytes = IfSome told (λ items. content name items ≡ Some bytes)
+
+-- where the contents are told and a device has the name, it has at least so many bytes
+abbrev pub HasAtLeast : Option Contents → List ℕ → ℕ → Type 0
+HasAtLeast told name size = IfSome told (λ items. IfSome (content name items) (λ all. size ≤ length all))
