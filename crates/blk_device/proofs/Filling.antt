@@ -1,54 +1,64 @@
--- How far a buffer is filled with a device's bytes.
-use Rattle.std.proofs.Common.{◌≡◌, ℕ, ◌+◌, ◌≤◌, List, ◌++◌, length, take, drop, Option, None, Some, ap, sym, ◌∙◌, arith, length-drop, length-take-le, take-add, take-take, take_at, drop_at}
+-- A buffer that is filled from a device, piece by piece.
+use Rattle.std.proofs.Common.{◌≡◌, ℕ, ◌+◌, ◌≤◌, List, [], ◌++◌, length, take, drop, Option, None, Some, unwrap_or, ap, sym, ◌∙◌, subst, arith}
 use Rattle.std.specs.Prelude.{IfSome}
 use Rattle.std.specs.Option.{option_map}
-use Rattle.std.proofs.lemmas.Slice.{take-put_mid}
-use borrow.Rule.Slice.PartMut.{put_mid, same_len_mid}
+use Rattle.std.proofs.lemmas.List.{length-take, drop-drop, take_all}
+use Rattle.std.proofs.Math.Seq.{take-add, take-append-add}
 use Rattle.blk_device.specs.Contents.{Contents, HasBytes, content}
 
--- where a device has the name, the buffer begins with so many of its bytes
-abbrev pub Filled : Option Contents → List ℕ → List ℕ → ℕ → Type 0
-Filled told name buffer done =
-    IfSome told (λ items. IfSome (content name items) (λ all. take done buffer ≡ take done all))
+-- so many bytes at the buffer's front are the device's from a place on, where that is told and the device is there
+pub record FilledTo (told : Option Contents) (name : List ℕ) (at : ℕ) (buffer : List ℕ) (done : ℕ) : Type 0 where
+  pub within : done ≤ length buffer
+  pub held : IfSome told (λ items. IfSome (content name items) (λ all. take done (drop at all) ≡ take done buffer))
 
--- the part behind what is filled was written, and its first bytes count
-front : (buffer part : List ℕ) (done room count : ℕ) → done + room ≡ length buffer → length part ≡ room → count ≤ room →
-    take (done + count) (put_mid done room buffer part) ≡ take done buffer ++ take count part
-front buffer part done room count fits long few =
-    let within = length-take-le done buffer (omega arith) in
-    sym (take-take (done + count) (done + room) (put_mid done room buffer part) (omega arith))
-    ∙ ap (take (done + count)) (take-put_mid done room buffer part (done + room) (omega arith) (omega arith))
-    ∙ take-add done count (take done buffer ++ part)
-    ∙ (λ k. take_at (take done buffer) part done within k ++ take count (drop_at (take done buffer) part done within k))
+-- what was read stands behind what was there
+joined : (before tail after : List ℕ) (done n : ℕ) → done ≤ length before → length after ≡ done + length tail →
+    take (done + length tail) after ≡ take done before ++ tail → take (done + n) after ≡ take done before ++ take n tail
+joined before tail after done n within long parts =
+    let front : length (take done before) ≡ done = omega (arith, length-take done before) in
+    let whole : after ≡ take done before ++ tail = sym (take_all (done + length tail) after (omega arith)) ∙ parts in
+    ap (λ xs. take (done + n) xs) whole
+    ∙ (ap (λ (k : ℕ). take (k + n) (take done before ++ tail)) (sym front)
+    ∙ take-append-add (take done before) tail n)
 
-more : (found : Option (List ℕ)) (buffer part : List ℕ) (done room count : ℕ) → done + room ≡ length buffer →
-    length part ≡ room → count ≤ room → IfSome found (λ all. take done buffer ≡ take done all) →
-    option_map (λ all. take (length (take count part)) (drop done all)) found ≡ Some (take count part) →
-    IfSome found (λ all. take (done + count) (put_mid done room buffer part) ≡ take (done + count) all)
-more None buffer part done room count fits long few filled bytes = tt
-more (Some all) buffer part done room count fits long few filled bytes =
-    let counted : length (take count part) ≡ count = length-take-le count part (omega arith) in
-    let read : take (length (take count part)) (drop done all) ≡ take count part = cc in
-    let next : take count (drop done all) ≡ take count part =
-    ap (λ (n : ℕ). take n (drop done all)) (sym counted) ∙ read in
-    front buffer part done room count fits long few
-    ∙ ap (λ (xs : List ℕ). xs ++ take count part) filled
-    ∙ ap (λ (xs : List ℕ). take done all ++ xs) (sym next)
-    ∙ sym (take-add done count all)
+more_of : (found : Option (List ℕ)) (at done n : ℕ) (before tail after : List ℕ) →
+    n ≤ length tail →
+    take (done + n) after ≡ take done before ++ take n tail →
+    IfSome found (λ all. take done (drop at all) ≡ take done before) →
+    option_map (λ all. take (length (take n tail)) (drop (at + done) all)) found ≡ Some (take n tail) →
+    IfSome found (λ all. take (done + n) (drop at all) ≡ take (done + n) after)
+more_of None at done n before tail after inside parts first next = tt
+more_of (Some all) at done n before tail after inside parts first next =
+    let count : length (take n tail) ≡ n = omega (arith, length-take n tail) in
+    let order : at + done ≡ done + at = omega arith in
+    let piece : take n (drop done (drop at all)) ≡ take n tail =
+    ap (λ xs. take n xs) (drop-drop done at all)
+    ∙ (ap (λ (k : ℕ). take k (drop (at + done) all)) (sym count) ∙ ap (λ (o : Option (List ℕ)). unwrap_or o []) next) in
+    take-add done n (drop at all)
+    ∙ (ap (λ xs. xs ++ take n (drop done (drop at all))) first
+    ∙ (ap (λ xs. take done before ++ xs) piece ∙ sym parts))
 
-pub Filled-more : (told : Option Contents) (name buffer part : List ℕ) (done room count : ℕ) →
-    done + room ≡ length buffer → length part ≡ room → count ≤ room → Filled told name buffer done →
-    HasBytes told name done (take count part) →
-    Filled told name (put_mid done room buffer part) (done + count)
-Filled-more None name buffer part done room count fits long few filled bytes = tt
-Filled-more (Some items) name buffer part done room count fits long few filled bytes =
-    more (content name items) buffer part done room count fits long few filled bytes
+more_told : (told : Option Contents) (name : List ℕ) (at done n : ℕ) (before tail after : List ℕ) →
+    n ≤ length tail →
+    take (done + n) after ≡ take done before ++ take n tail →
+    IfSome told (λ items. IfSome (content name items) (λ all. take done (drop at all) ≡ take done before)) →
+    HasBytes told name (at + done) (take n tail) →
+    IfSome told (λ items. IfSome (content name items) (λ all. take (done + n) (drop at all) ≡ take (done + n) after))
+more_told None name at done n before tail after inside parts first next = tt
+more_told (Some items) name at done n before tail after inside parts first next =
+    more_of (content name items) at done n before tail after inside parts first next
 
--- the buffer keeps its length
-pub length-written : (buffer part : List ℕ) (done room : ℕ) → done + room ≡ length buffer → length part ≡ room →
-    length (put_mid done room buffer part) ≡ length buffer
-length-written buffer part done room fits long =
-    same_len_mid done room buffer part (omega (
-      arith,
-      length-take-le room (drop done buffer) (omega (arith, length-drop done buffer)),
-    ))
+-- one piece more
+pub filled_more : (told now : Option Contents) (name : List ℕ) (at done n : ℕ) (before tail after : List ℕ) →
+    FilledTo told name at before done → now ≡ told → HasBytes now name (at + done) (take n tail) →
+    n ≤ length tail → length after ≡ done + length tail →
+    take (done + length tail) after ≡ take done before ++ tail →
+    FilledTo told name at after (done + n)
+filled_more told now name at done n before tail after filled same next inside long parts = record {
+  within = omega arith;
+  held =
+      let here : HasBytes told name (at + done) (take n tail) =
+      subst (λ items. HasBytes items name (at + done) (take n tail)) same next in
+      more_told told name at done n before tail after inside (joined before tail after done n filled.within long parts)
+      filled.held here;
+}

@@ -6,7 +6,7 @@ ghost use Rattle.std.specs.Prelude.{◌≡◌, ◌-◌, ◌<◌, ◌≤◌, Some
 use super::{DevError, Devices, NamedBytes};
 use std::marker::Model;
 
-/// Devices over bytes that are lent. They never fail.
+/// Devices over bytes that are lent. They never answer that they failed.
 #[derive(Debug, Drop)]
 pub struct ImageDevices<'a> {
     items: &'a NamedBytes,
@@ -40,7 +40,7 @@ impl<'a> Devices for ImageDevices<'a> {
         ensures failed { IsErrOf result DevError.Failed → Rose 0 0 }
         ensures never_falls { 0 ≤ 0 }
 
-        // It never fails, and nothing changes.
+        // Never that it failed, and nothing changes.
         ensures answer { result ≡ size_of (content name.now self.old) }
         ensures same { self.new ≡ self.old }
     {
@@ -59,7 +59,7 @@ impl<'a> Devices for ImageDevices<'a> {
         ensures failed { IsErrOf result DevError.Failed → Rose 0 0 }
         ensures never_falls { 0 ≤ 0 }
 
-        // It never fails, and gives as many bytes as there are and fit. The rest of `out` stays.
+        // Never that it failed, and as many bytes are given as there are and fit. The rest of `out` stays.
         ensures answer { result ≡ count_of (content name.now self.old) at (length out.old) }
         ensures buffer { out.new ≡ buffer_of (content name.now self.old) at out.old }
         ensures same { self.new ≡ self.old }

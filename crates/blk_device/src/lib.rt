@@ -1,7 +1,8 @@
 //! Devices: bytes under names, which a program asks for from a place on.
 //!
 //! [`Devices`] is what a reader needs of them. They may fail, and count it. [`MemoryDevices`] fail where it is planned,
-//! [`ImageDevices`] never do, and [`FileDevices`] are the files of a system. [`read_device`] reads a device whole.
+//! [`ImageDevices`] never answer that they failed, and [`FileDevices`] are the files of a system. [`read_exact_at`] fills a
+//! buffer from a device, and [`read_device`] reads one whole.
 #![tactic(auto)]
 
 mod devices;
@@ -16,7 +17,7 @@ pub use files::FileDevices;
 pub use image::ImageDevices;
 pub use memory::MemoryDevices;
 pub use named_bytes::NamedBytes;
-pub use whole::{ReadDeviceError, read_device};
+pub use whole::{ReadDeviceError, read_device, read_exact_at};
 
 #[cfg(test)]
 mod tests;

@@ -81,3 +81,29 @@ fn files_are_devices(rt: HostRuntime) -> Result<(), Fail> {
     assert_eq!(rt; devices.size(b"\xff"), Err(DevError::Failed));
     Ok(())
 }
+
+// Asks for the size first, and so makes two calls.
+fn read_whole(
+    alloc: Global,
+    devices: &mut impl Devices,
+    name: &[u8],
+) -> Result<Vec<u8>, ReadDeviceError> {
+    match devices.size(name) {
+        Ok(size) => read_device(alloc, devices, name, size),
+        Err(DevError::Failed) => Err(ReadDeviceError::Failed),
+        Err(DevError::Missing) => Err(ReadDeviceError::Missing),
+    }
+}
+
+#[test]
+fn devices_are_read_whole(rt: HostRuntime) -> Result<(), Fail> {
+    let plan = vec![in rt.alloc(); 2]?;
+    let mut devices = MemoryDevices::new(items(rt.alloc())?, plan);
+    let failed = read_whole(rt.alloc(), &mut devices, b"disk");
+    assert_eq!(rt; failed.err(), Some(ReadDeviceError::Failed));
+    let whole = read_whole(rt.alloc(), &mut devices, b"disk")?;
+    assert_eq!(rt; whole.as_slice(), b"abcdef".as_slice());
+    let missing = read_whole(rt.alloc(), &mut devices, b"dis");
+    assert_eq!(rt; missing.err(), Some(ReadDeviceError::Missing));
+    Ok(())
+}

@@ -1,6 +1,6 @@
-ghost use Rattle.blk_device.specs.Contents.{HasContent, HasNone, HasSize};
+ghost use Rattle.blk_device.specs.Contents.{HasAtLeast, HasContent, HasNone, HasSize, content};
 ghost use Rattle.ipe_words.specs.Count.{Rose};
-ghost use Rattle.std.specs.Prelude.{◌≡◌, ◌≤◌, length, IfOk, IsErrOf, OnOk};
+ghost use Rattle.std.specs.Prelude.{◌≡◌, ◌+◌, ◌^◌, ◌<◌, ◌≤◌, length, take, drop, IfOk, IfSome, IsErrOf, OnOk};
 
 use super::{DevError, Devices};
 use std::alloc::Global;
@@ -32,25 +32,33 @@ pub fn read_device<D: Devices>(
     ensures never_falls { D.faults devices.old ≤ D.faults devices.new }
 {
     let mut bytes = vec![in alloc; 0; size as usize].map_err(|_| ReadDeviceError::NoMemory)?;
-    match fill(devices, name, &mut bytes) {
+    match read_exact_at(devices, name, 0, &mut bytes) {
         Ok(()) => Ok(bytes),
         Err(DevError::Failed) => Err(ReadDeviceError::Failed),
         Err(DevError::Missing) => Err(ReadDeviceError::Missing),
     }
 }
 
-// Reads a device into a buffer of its size.
-fn fill<D: Devices>(devices: &mut D, name: &[u8], buffer: &mut [u8]) -> Result<(), DevError>
-    requires { HasSize (D.contents devices.old) name.now (length buffer.old) }
-    ensures content { OnOk result (HasContent (D.contents devices.old) name.now buffer.new) }
+/// Reads a device's bytes from `at` on until `out` is full, in as many calls as it needs.
+pub fn read_exact_at<D: Devices>(
+    devices: &mut D,
+    name: &[u8],
+    at: u64,
+    out: &mut [u8],
+) -> Result<(), DevError>
+    requires held { HasAtLeast (D.contents devices.old) name.now (at + length out.old) }
+    requires fits { at + length out.old < 2 ^ 64 }
+    ensures bytes { OnOk result (IfSome (D.contents devices.old) (λ items. IfSome (content name.now items) (λ all.
+        take (length out.new) (drop at all) ≡ out.new))) }
     ensures missing { IsErrOf result DevError.Missing → HasNone (D.contents devices.old) name.now }
     ensures failed { IsErrOf result DevError.Failed → Rose (D.faults devices.old) (D.faults devices.new) }
     ensures same { D.contents devices.new ≡ D.contents devices.old }
     ensures never_falls { D.faults devices.old ≤ D.faults devices.new }
 {
     let mut done = 0;
-    while done < buffer.len() {
-        done += devices.read_at(name, done as u64, &mut buffer[done..])?;
+    while done < out.len() {
+        let count = devices.read_at(name, at + done as u64, &mut out[done..])?;
+        done += count;
     }
     Ok(())
 }
