@@ -95,8 +95,8 @@ fn filled_digest(
     Ok(salted_digest(salt, &full))
 }
 
-// The digest of a block behind its salt.
-fn salted_digest(salt: &[u8], block: &[u8]) -> [u8; 32]
+/// The digest that a tree has of a block: SHA-256 of the salt and then the block.
+pub fn salted_digest(salt: &[u8], block: &[u8]) -> [u8; 32]
     ensures { result ≡ salted salt.now block.now }
 {
     let mut hasher = Sha256::new();

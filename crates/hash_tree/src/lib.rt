@@ -10,6 +10,6 @@ mod above;
 mod law;
 mod shape;
 
-pub use above::{Tree, build};
+pub use above::{Tree, build, salted_digest};
 pub use law::{checked_paths_lead_to_the_image, trees_have_their_shape};
 pub use shape::{Shape, layout};
