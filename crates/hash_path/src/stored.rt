@@ -1,7 +1,7 @@
 use std::marker::Model;
 
 /// A hash tree that a device stores, and what it is checked against.
-#[derive(Clone, Copy, Debug)]
+#[derive(Debug)]
 pub struct StoredTree<'a> {
     /// The name of the device that has the hash blocks.
     pub device: &'a [u8],
@@ -19,7 +19,7 @@ pub struct StoredTree<'a> {
     pub salt: &'a [u8],
 }
 
-impl Model for StoredTree<'_> {
+impl<'a> Model for StoredTree<'a> {
     ghost use Rattle.hash_path.specs.Stored.{Stored};
 
     ghost Value = { Stored };

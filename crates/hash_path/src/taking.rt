@@ -1,6 +1,6 @@
-ghost use Rattle.blk_device.specs.Contents.{HasNone};
+ghost use Rattle.blk_device.specs.Contents.{HasAtLeast, HasNone};
 ghost use Rattle.hash_path.specs.Checked.{FailsAt, IsChecked, LeadsTo};
-ghost use Rattle.hash_path.specs.Stored.{HasTree, IsStored, OfBytes, held_blocks};
+ghost use Rattle.hash_path.specs.Stored.{HasTree, IsStored, OfBytes, held_block, held_blocks};
 ghost use Rattle.hash_tree.specs.Path.{digest_in};
 ghost use Rattle.hash_tree.specs.Tree.{salted};
 ghost use Rattle.ipe_words.specs.Count.{Rose};
@@ -44,20 +44,21 @@ pub fn take_hash_blocks<D: Devices>(
     ensures kept { path.new ≡ record path.old { items = path.new.items } }
     ensures long { length buffer.new ≡ length buffer.old }
 {
-    let size = u64::from(tree.block_size);
-    let fan_out = size / 32;
+    let fan_out = u64::from(tree.block_size / 32);
     path.clear();
+    let mut level = tree.levels;
     let mut first = 0;
     let mut wanted = tree.root;
-    for level in (1..=tree.levels).rev() {
+    while level > 0 {
         let block = over(i, fan_out, level);
-        read_exact_at(dev, tree.device, tree.start + (first + block) * size, buffer).map_err(fault_of)?;
+        read_hash_block(tree, dev, first + block, buffer)?;
         path.push(buffer);
         if wanted != salted_digest(tree.salt, buffer) {
             return Err(VerityError::Corrupt { level, block });
         }
         first += over(tree.blocks - 1, fan_out, level) + 1;
-        wanted = digest_in(buffer, (over(i, fan_out, level - 1) % fan_out) as usize);
+        level -= 1;
+        wanted = digest_in(buffer, (over(i, fan_out, level) % fan_out) as usize);
     }
     Ok(wanted)
 }
@@ -87,5 +88,63 @@ pub fn check_data_block(
         Ok(())
     } else {
         Err(VerityError::Corrupt { level: 0, block: i })
+    }
+}
+
+// Reads the block of a tree that has this number, counted from its first.
+fn read_hash_block<D: Devices>(
+    tree: &StoredTree,
+    dev: &mut D,
+    number: u64,
+    out: &mut [u8],
+) -> Result<(), VerityError>
+    requires tree { IsStored tree.now }
+    requires few { number < 50331648 }
+    requires size { length out.old ≡ tree.now.block_size }
+    requires there { HasAtLeast (D.contents dev.old) tree.now.device
+        (tree.now.start + number * tree.now.block_size + tree.now.block_size) }
+    ensures held { OnOk result (OfBytes (D.contents dev.old) tree.now.device (λ bytes.
+        out.new ≡ held_block tree.now bytes number)) }
+    ensures missing { IsErrOf result VerityError.Missing → HasNone (D.contents dev.old) tree.now.device }
+    ensures failed { IsErrOf result VerityError.DeviceFault → Rose (D.faults dev.old) (D.faults dev.new) }
+    ensures unchecked { (level b : ℕ) → IsErrOf result (VerityError.Corrupt level b) → ⊥ }
+    ensures same { D.contents dev.new ≡ D.contents dev.old }
+    ensures never_falls { D.faults dev.old ≤ D.faults dev.new }
+{
+    let at = tree.start + number * u64::from(tree.block_size);
+    read_exact_at(dev, tree.device, at, out).map_err(fault_of)
+}
+
+// Digest number `place` of a hash block.
+fn digest_in(block: &[u8], place: usize) -> [u8; 32]
+    requires { 32 * place + 32 ≤ length block.now }
+    ensures { result ≡ digest_in place block.now }
+{
+    let at = 32 * place;
+    let mut digest = [0; 32];
+    digest.copy_from_slice(&block[at..at + 32]);
+    digest
+}
+
+// The number of the block over block i, so many levels above it.
+fn over(i: u64, fan_out: u64, level: u8) -> u64
+    requires { 0 < fan_out }
+    ensures { result ≡ i / fan_out ^ level }
+{
+    let mut number = i;
+    for _ in 0..level {
+        number /= fan_out;
+    }
+    number
+}
+
+fn fault_of(error: DevError) -> VerityError
+    ensures missing { result ≡ VerityError.Missing → error ≡ DevError.Missing }
+    ensures failed { result ≡ VerityError.DeviceFault → error ≡ DevError.Failed }
+    ensures corrupt { (level block : ℕ) → result ≡ VerityError.Corrupt level block → ⊥ }
+{
+    match error {
+        DevError::Failed => VerityError::DeviceFault,
+        DevError::Missing => VerityError::Missing,
     }
 }

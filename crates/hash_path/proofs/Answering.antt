@@ -1,0 +1,145 @@
+-- What a checked read answers.
+use Rattle.std.proofs.Common.{◌≡◌, ℕ, zero, suc, ◌+◌, ◌-◌, ◌/◌, ◌^◌, ◌<◌, ◌≤◌, List, [], ◌∷◌, ◌++◌, length, take, drop, get_or, Option, None, Some, Result, Ok, Err, ap, refl, sym, ◌∙◌, subst, arith, inl, inr}
+use Rattle.std.specs.Prelude.{IfSome, IsErrOf, OnOk}
+use Rattle.std.proofs.lemmas.Bool.{cases_lt}
+use Rattle.std.proofs.lemmas.List.{length-append, length-drop, length-take, take-append-drop, take-append-le, take_all}
+use Rattle.std.proofs.lemmas.Option.{none-some}
+use Rattle.blk_device.specs.Contents.{Contents, HasNone, content}
+use Rattle.blk_device.specs.declared.devices.VerityError.{VerityError}
+use Rattle.blk_device.specs.declared.devices.VerityError.TheVariants.{Corrupt, DeviceFault, Missing}
+use Rattle.hash_tree.specs.Path.{first_failing, path, path_below}
+use Rattle.hash_tree.specs.Shape.{IsHeight}
+use Rattle.hash_tree.specs.Tree.{fan_out, levels, root}
+use Rattle.hash_tree.proofs.Levels.{levels_some}
+use Rattle.hash_tree.proofs.Paths.{checked}
+use Rattle.hash_tree.proofs.Shapes.{levels_height}
+use Rattle.hash_path.specs.Checked.{CheckedBlocksAreOfTheImage, FailsAt, IsChecked, answer_of, failing}
+use Rattle.hash_path.specs.Stored.{OfBytes, Stored, held_blocks}
+use Rattle.hash_path.proofs.Walking.{length-held_from}
+
+-- a height is one alone
+same_height : (h n L M : ℕ) → IsHeight h n L → IsHeight h n M → L ≡ M
+same_height h n L M first second = elim (cases_lt L M) [
+  | inl below ↦
+      let more : 0 < (n - 1) / h ^ L = second.least L below in
+      let none : (n - 1) / h ^ L ≡ 0 = first.holds_all in
+      absurd (omega arith)
+  | inr from ↦ elim (cases_lt M L) [
+    | inl below ↦
+        let more : 0 < (n - 1) / h ^ M = first.least M below in
+        let none : (n - 1) / h ^ M ≡ 0 = second.holds_all in
+        absurd (omega arith)
+    | inr other ↦ omega arith
+  ]
+]
+
+length-path_below : (h : ℕ) (all : List (List (List ℕ))) (i count : ℕ) → length (path_below h all i count) ≡ count
+unfolding path_below
+length-path_below h all i zero = refl
+length-path_below h all i (suc count) = ap suc (length-path_below h all i count)
+
+length-path : (size : ℕ) (salt : List ℕ) (image : List (List ℕ)) (i : ℕ) →
+    length (path size salt image i) ≡ length (levels size salt image)
+unfolding path
+length-path size salt image i =
+    length-path_below (fan_out size) (levels size salt image) i (length (levels size salt image))
+
+-- a checked path ends with the block of each image that has the root, or shows two blocks that collide
+pub of_image : CheckedBlocksAreOfTheImage
+of_image tree i taken block is inside right image count declared =
+    let size = tree.block_size in
+    let salt = tree.salt in
+    let many : 2 ≤ fan_out size = omega (arith, is.size.wide) in
+    let some : 0 < length image = omega arith in
+    let high : IsHeight (fan_out size) tree.blocks (length (levels size salt image) - 1) =
+    subst (λ (n : ℕ). IsHeight (fan_out size) n (length (levels size salt image) - 1)) count
+    (levels_height size salt image many some) in
+    let same : tree.levels ≡ length (levels size salt image) - 1 =
+    same_height (fan_out size) tree.blocks tree.levels (length (levels size salt image) - 1) is.height high in
+    let whole : length taken ≡ tree.levels + 1 = right.whole in
+    let shape : length taken ≡ length (path size salt image i) =
+    omega (arith, length-path size salt image i, levels_some size salt image) in
+    let top : length taken - 1 ≡ tree.levels = omega arith in
+    let last : get_or taken (length taken - 1) [] ≡ block = ap (λ (k : ℕ). get_or taken k []) top ∙ right.last in
+    let none : first_failing (fan_out size) salt (root size salt image) i taken ≡ None =
+    ap (λ wanted. first_failing (fan_out size) salt wanted i taken) declared ∙ right.right in
+    elim (checked size salt image i taken many (omega arith) shape none) [
+      | inl leads ↦ inl (sym last ∙ leads)
+      | inr shown ↦ inr shown
+    ]
+
+-- the answer by what was taken
+pub record Answers (tree : Stored) (i : ℕ) (taken : List (List ℕ)) (block : List ℕ)
+    (result : Result (Unit {0}) VerityError) : Type 0 where
+  pub ok : OnOk result (IsChecked tree i taken block)
+  pub corrupt : (level b : ℕ) → IsErrOf result (Corrupt level b) → FailsAt tree i taken level b
+
+-- and by what is held, where what was taken is its front
+pub by_held : (tree : Stored) (i : ℕ) (taken held : List (List ℕ)) (block : List ℕ)
+    (result : Result (Unit {0}) VerityError) → Answers tree i taken block result →
+    (IsErrOf result Missing → ⊥) → length held ≡ suc tree.levels → taken ≡ take (length taken) held →
+    (IsErrOf result DeviceFault → ⊥) → result ≡ answer_of (failing tree i held)
+by_held tree i taken held block (Ok tt) answers there long front sound =
+    let right : IsChecked tree i taken block = answers.ok in
+    let count : length taken ≡ tree.levels + 1 = right.whole in
+    let same : taken ≡ held = front ∙ take_all (length taken) held (omega arith) in
+    ap answer_of (sym right.right ∙ ap (λ xs. failing tree i xs) same)
+by_held tree i taken held block (Err (Corrupt level b)) answers there long front sound =
+    let fails : FailsAt tree i taken level b = answers.corrupt level b refl in
+    let left : length taken + level ≡ tree.levels + 1 = fails.levels_left in
+    let rest = drop (length taken) held in
+    let whole : held ≡ taken ++ rest = sym (ap (λ xs. xs ++ rest) front ∙ take-append-drop (length taken) held) in
+    ap answer_of (sym (fails.fails rest (omega (arith, length-drop (length taken) held)))
+    ∙ ap (λ xs. failing tree i xs) (sym whole))
+by_held tree i taken held block (Err DeviceFault) answers there long front sound = absurd (sound refl)
+by_held tree i taken held block (Err Missing) answers there long front sound = absurd (there refl)
+
+found_answer : (tree : Stored) (i : ℕ) (taken : List (List ℕ)) (block : List ℕ)
+    (result : Result (Unit {0}) VerityError) (held : List ℕ → List (List ℕ)) (found : Option (List ℕ)) →
+    Answers tree i taken block result → (IsErrOf result Missing → found ≡ None) →
+    ((bytes : List ℕ) → length (held bytes) ≡ suc tree.levels) →
+    IfSome found (λ bytes. taken ≡ take (length taken) (held bytes)) →
+    IfSome found (λ bytes.
+    (IsErrOf result DeviceFault → ⊥) → result ≡ answer_of (failing tree i (held bytes)))
+found_answer tree i taken block result held None answers missing long front = tt
+found_answer tree i taken block result held (Some bytes) answers missing long front =
+    by_held tree i taken (held bytes) block result answers (λ is. none-some bytes (sym (missing is))) (long bytes) front
+
+-- the same over one device, of whose bytes the path is held
+pub told_answer : (told : Option Contents) (name : List ℕ) (tree : Stored) (i : ℕ) (taken : List (List ℕ))
+    (block : List ℕ) (result : Result (Unit {0}) VerityError) (held : List ℕ → List (List ℕ)) →
+    Answers tree i taken block result → (IsErrOf result Missing → HasNone told name) →
+    ((bytes : List ℕ) → length (held bytes) ≡ suc tree.levels) →
+    OfBytes told name (λ bytes. taken ≡ take (length taken) (held bytes)) →
+    OfBytes told name (λ bytes.
+    (IsErrOf result DeviceFault → ⊥) → result ≡ answer_of (failing tree i (held bytes)))
+told_answer None name tree i taken block result held answers missing long front = tt
+told_answer (Some items) name tree i taken block result held answers missing long front =
+    found_answer tree i taken block result held (content name items) answers missing long front
+
+-- a path with a block below the hash blocks is as long as a whole one
+pub length-held : (tree : Stored) (bytes : List ℕ) (i : ℕ) (block : List ℕ) →
+    length (held_blocks tree bytes i ++ block ∷ []) ≡ suc tree.levels
+length-held tree bytes i block =
+    omega (
+      arith,
+      length-append (held_blocks tree bytes i) (block ∷ []),
+      length-held_from tree bytes i 0 tree.levels,
+    )
+
+-- the front of the hash blocks is the front of the path
+pub front_short : (held path rest : List (List ℕ)) → path ≡ take (length path) held →
+    path ≡ take (length path) (held ++ rest)
+front_short held path rest is =
+    is
+    ∙ sym (take-append-le (length path) held rest (omega (arith, length-take (length path) held, ap (λ (xs : List (List ℕ)). length xs) is)))
+
+-- all of them and the block below them are the path
+pub front_whole : (held path : List (List ℕ)) (block : List ℕ) → length path ≡ length held →
+    path ≡ take (length path) held →
+    path ++ block ∷ [] ≡ take (length (path ++ block ∷ [])) (held ++ block ∷ [])
+front_whole held path block long is =
+    let same : path ≡ held = is ∙ take_all (length path) held (omega arith) in
+    ap (λ xs. xs ++ block ∷ []) same
+    ∙ (sym (take_all (length (held ++ block ∷ [])) (held ++ block ∷ []) (omega arith))
+    ∙ ap (λ (n : ℕ). take n (held ++ block ∷ [])) (sym (ap (λ (xs : List (List ℕ)). length (xs ++ block ∷ [])) same)))

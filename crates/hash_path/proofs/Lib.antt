@@ -1,0 +1,4 @@
+mod Joined
+mod Places
+mod Walking
+pub mod Answering
