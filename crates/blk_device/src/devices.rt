@@ -22,6 +22,22 @@ pub enum VerityError {
     Missing,
 }
 
+impl From<DevError> for VerityError {
+    ghost use Rattle.blk_device.specs.declared.devices.DevError.{DevError};
+    ghost use Rattle.blk_device.specs.declared.devices.VerityError.{VerityError};
+
+    ghost from_gives = { λ error fault. (fault ≡ VerityError.Missing → error ≡ DevError.Missing)
+        × (fault ≡ VerityError.DeviceFault → error ≡ DevError.Failed)
+        × ((level block : ℕ) → fault ≡ VerityError.Corrupt level block → ⊥) };
+
+    fn from(error: DevError) -> VerityError {
+        match error {
+            DevError::Failed => VerityError::DeviceFault,
+            DevError::Missing => VerityError::Missing,
+        }
+    }
+}
+
 /// Devices, each with a name.
 pub trait Devices {
     /// What the devices hold, where that is told. The first of a name counts.

@@ -7,7 +7,7 @@ ghost use Rattle.ipe_words.specs.Count.{Rose};
 ghost use Rattle.std.specs.Prelude.{◌≡◌, ◌+◌, ◌*◌, ◌/◌, ◌^◌, ◌<◌, ◌≤◌, ◌++◌, ◌∷◌, ℕ, [], bytes_eq, length, take, IfOk, IsErrOf, OnOk};
 
 use crate::{BlockPath, StoredTree};
-use blk_device::{DevError, Devices, VerityError, read_exact_at};
+use blk_device::{Devices, VerityError, read_exact_at};
 use hash_tree::salted_digest;
 
 /// Takes the hash blocks over data block `i`, from the top level down, and says which digest they want of that block:
@@ -112,7 +112,8 @@ fn read_hash_block<D: Devices>(
     ensures never_falls { D.faults dev.old ≤ D.faults dev.new }
 {
     let at = tree.start + number * u64::from(tree.block_size);
-    read_exact_at(dev, tree.device, at, out).map_err(fault_of)
+    read_exact_at(dev, tree.device, at, out)?;
+    Ok(())
 }
 
 // Digest number `place` of a hash block.
@@ -136,15 +137,4 @@ fn over(i: u64, fan_out: u64, level: u8) -> u64
         number /= fan_out;
     }
     number
-}
-
-fn fault_of(error: DevError) -> VerityError
-    ensures missing { result ≡ VerityError.Missing → error ≡ DevError.Missing }
-    ensures failed { result ≡ VerityError.DeviceFault → error ≡ DevError.Failed }
-    ensures corrupt { (level block : ℕ) → result ≡ VerityError.Corrupt level block → ⊥ }
-{
-    match error {
-        DevError::Failed => VerityError::DeviceFault,
-        DevError::Missing => VerityError::Missing,
-    }
 }
