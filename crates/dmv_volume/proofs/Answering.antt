@@ -1,110 +1,143 @@
 -- What a call of `read_block` answers.
-use Rattle.std.proofs.Common.{◌≡◌, ℕ, zero, suc, ◌+◌, ◌-◌, ◌<◌, ◌≤◌, List, [], ◌++◌, length, take, drop, get_or, Option, None, Some, Result, Ok, Err, ap, refl, sym, ◌∙◌, subst, arith, inl, inr}
+use Rattle.std.proofs.Common.{◌≡◌, ℕ, ◌+◌, ◌*◌, ◌<◌, List, [], ◌∷◌, ◌++◌, length, take, drop, Option, None, Some, Result, Ok, Err, ap, sym, ◌∙◌, subst, arith, inl, inr}
 use Rattle.std.specs.Prelude.{IfSome, IsErrOf, OnOk, ◌⊎◌}
-use Rattle.std.proofs.lemmas.List.{length-drop, take-append-drop, take_all}
+use Rattle.std.specs.Fork.{slice_chunk}
+use Rattle.std.proofs.lemmas.Nat.{mul-le}
 use Rattle.std.proofs.lemmas.Option.{none-some}
-use Rattle.blk_device.specs.Contents.{Contents, HasNone, content}
+use Rattle.std.proofs.Math.Nat.{add-mul}
+use Rattle.blk_device.specs.Contents.{Contents, HasAtLeast, HasNone, content}
 use Rattle.blk_device.specs.declared.devices.VerityError.{VerityError}
-use Rattle.blk_device.specs.declared.devices.VerityError.TheVariants.{Corrupt, DeviceFault, Missing}
-use Rattle.hash_tree.specs.Path.{first_failing, path, path_below}
-use Rattle.hash_tree.specs.Shape.{IsHeight}
-use Rattle.hash_tree.specs.Tree.{fan_out, levels, root}
-use Rattle.hash_tree.proofs.Levels.{levels_some}
-use Rattle.hash_tree.proofs.Paths.{checked}
-use Rattle.hash_tree.proofs.Shapes.{levels_height}
-use Rattle.dmv_volume.specs.Reading.{FailsAt, IsChecked, IsOfImage, OfBoth, answer_of, failing, held_path}
-use Rattle.dmv_volume.specs.Table.{TableParts}
-use Rattle.dmv_volume.proofs.Heights.{same_height}
-use Rattle.dmv_volume.proofs.Walking.{length-held_from}
+use Rattle.blk_device.specs.declared.devices.VerityError.TheVariants.{DeviceFault, Missing}
+use Rattle.dmv_tree.proofs.Bytes.{hash_size, wide}
+use Rattle.hash_tree.specs.Shape.{IsHeight, blocks_above}
+use Rattle.hash_tree.specs.Tree.{fan_out}
+use Rattle.hash_path.specs.Checked.{LeadsTo, answer_of, failing}
+use Rattle.hash_path.specs.Stored.{HasTree, IsStored, OfBytes, Stored, held_blocks}
+use Rattle.hash_path.proofs.Answering.{Answers, by_held, front_short, front_whole, length-held}
+use Rattle.hash_path.proofs.Places.{at_least_less, ends_within}
+use Rattle.dmv_volume.specs.Reading.{OfBoth, held_path, tree_of}
+use Rattle.dmv_volume.specs.Table.{HasLimits, TableParts}
+use Rattle.dmv_volume.proofs.Heights.{three_levels}
 
-length-path_below : (h : ℕ) (all : List (List (List ℕ))) (i count : ℕ) → length (path_below h all i count) ≡ count
-unfolding path_below
-length-path_below h all i zero = refl
-length-path_below h all i (suc count) = ap suc (length-path_below h all i count)
+-- a table's tree is one that devices store
+pub is_stored : (table : TableParts) (levels : ℕ) → HasLimits table →
+    IsHeight (fan_out table.block_size) table.blocks levels → IsStored (tree_of table levels)
+is_stored table levels limits height =
+    let size = hash_size table.block_size limits.block_size in
+    record {
+      size = size;
+      some = limits.some;
+      few = omega (arith, limits.few);
+      height = height;
+      low = three_levels (fan_out table.block_size) table.blocks levels (wide table.block_size limits.block_size)
+          limits.few limits.some height;
+      start = omega (arith, mul-le table.hash_start table.block_size 1048576 4096 limits.hash_start size.small);
+    }
 
-length-path : (size : ℕ) (salt : List ℕ) (image : List (List ℕ)) (i : ℕ) →
-    length (path size salt image i) ≡ length (levels size salt image)
-unfolding path
-length-path size salt image i =
-    length-path_below (fan_out size) (levels size salt image) i (length (levels size salt image))
+-- the hash device has the tree, where it has so many blocks
+pub has_tree : (told : Option Contents) (table : TableParts) (levels : ℕ) →
+    HasAtLeast told table.hash_device ((table.hash_start + blocks_above (fan_out table.block_size) table.blocks levels)
+    * table.block_size) → HasTree told (tree_of table levels)
+has_tree told table levels has =
+    subst (λ (n : ℕ). HasAtLeast told table.hash_device n) (add-mul table.hash_start (blocks_above (fan_out table.block_size) table.blocks levels) table.block_size) has
 
--- a checked path ends with the block of each image that has the declared root, or shows two blocks that collide
-pub of_image : (table : TableParts) (height i : ℕ) (taken : List (List ℕ)) (block : List ℕ) →
-    2 ≤ fan_out table.block_size → suc i ≤ table.blocks → IsHeight (fan_out table.block_size) table.blocks height →
-    IsChecked table height i taken block → IsOfImage table i taken block
-of_image table height i taken block many inside is right image count declared =
-    let size = table.block_size in
-    let salt = table.salt in
-    let some : 0 < length image = omega arith in
-    let high : IsHeight (fan_out size) table.blocks (length (levels size salt image) - 1) =
-    subst (λ (n : ℕ). IsHeight (fan_out size) n (length (levels size salt image) - 1)) count
-    (levels_height size salt image many some) in
-    let same : height ≡ length (levels size salt image) - 1 =
-    same_height (fan_out size) table.blocks height (length (levels size salt image) - 1) is high in
-    let whole : length taken ≡ height + 1 = right.whole in
-    let shape : length taken ≡ length (path size salt image i) =
-    omega (arith, length-path size salt image i, levels_some size salt image) in
-    let top : length taken - 1 ≡ height = omega arith in
-    let last : get_or taken (length taken - 1) [] ≡ block = ap (λ (k : ℕ). get_or taken k []) top ∙ right.last in
-    let none : first_failing (fan_out size) salt (root size salt image) i taken ≡ None =
-    ap (λ wanted. first_failing (fan_out size) salt wanted i taken) declared ∙ right.right in
-    elim (checked size salt image i taken many (omega arith) shape none) [
-      | inl leads ↦ inl (sym last ∙ leads)
-      | inr shown ↦ inr shown
-    ]
+-- the data device has block i
+pub data_room : (told : Option Contents) (name : List ℕ) (n i size : ℕ) → i < n → HasAtLeast told name (n * size) →
+    HasAtLeast told name (i * size + size)
+data_room told name n i size inside has =
+    at_least_less told name (n * size) (i * size + size) (ends_within i n size (omega arith)) has
 
--- the answer by what the devices hold
-record Answers (table : TableParts) (height i : ℕ) (taken : List (List ℕ)) (block : List ℕ)
-    (result : Result (Unit {0}) VerityError) : Type 0 where
-  ok : OnOk result (IsChecked table height i taken block)
-  corrupt : (level b : ℕ) → IsErrOf result (Corrupt level b) → FailsAt table height i taken level b
+short_of : (first second : Option (List ℕ)) (table : TableParts) (levels i : ℕ) (taken : List (List ℕ)) →
+    IfSome second (λ hashes. taken ≡ take (length taken) (held_blocks (tree_of table levels) hashes i)) →
+    IfSome first (λ bytes. IfSome second (λ hashes.
+    taken ≡ take (length taken) (held_path table levels bytes hashes i)))
+short_of None second table levels i taken held = tt
+short_of (Some bytes) None table levels i taken held = tt
+short_of (Some bytes) (Some hashes) table levels i taken held =
+    front_short (held_blocks (tree_of table levels) hashes i) taken (slice_chunk bytes table.block_size i ∷ []) held
 
-by_held : (table : TableParts) (height i : ℕ) (taken held : List (List ℕ)) (block : List ℕ)
-    (result : Result (Unit {0}) VerityError) → Answers table height i taken block result →
-    (IsErrOf result Missing → ⊥) → length held ≡ suc height → taken ≡ take (length taken) held →
-    (IsErrOf result DeviceFault → ⊥) → result ≡ answer_of (failing table i held)
-by_held table height i taken held block (Ok tt) answers there long front sound =
-    let right : IsChecked table height i taken block = answers.ok in
-    let count : length taken ≡ height + 1 = right.whole in
-    let same : taken ≡ held = front ∙ take_all (length taken) held (omega arith) in
-    ap answer_of (sym right.right ∙ ap (λ xs. failing table i xs) same)
-by_held table height i taken held block (Err (Corrupt level b)) answers there long front sound =
-    let fails : FailsAt table height i taken level b = answers.corrupt level b refl in
-    let left : length taken + level ≡ height + 1 = fails.levels_left in
-    let rest = drop (length taken) held in
-    let whole : held ≡ taken ++ rest = sym (ap (λ xs. xs ++ rest) front ∙ take-append-drop (length taken) held) in
-    ap answer_of (sym (fails.fails rest (omega (arith, length-drop (length taken) held)))
-    ∙ ap (λ xs. failing table i xs) (sym whole))
-by_held table height i taken held block (Err DeviceFault) answers there long front sound = absurd (sound refl)
-by_held table height i taken held block (Err Missing) answers there long front sound = absurd (there refl)
+-- the front of the hash blocks is the front of the path
+pub short_path : (told : Option Contents) (table : TableParts) (levels i : ℕ) (taken : List (List ℕ)) →
+    OfBytes told table.hash_device (λ hashes. taken ≡ take (length taken) (held_blocks (tree_of table levels) hashes i)) →
+    OfBoth told table (λ bytes hashes. taken ≡ take (length taken) (held_path table levels bytes hashes i))
+short_path None table levels i taken held = tt
+short_path (Some items) table levels i taken held =
+    short_of (content table.device items) (content table.hash_device items) table levels i taken held
 
-found_answer : (table : TableParts) (height i : ℕ) (taken : List (List ℕ)) (block : List ℕ)
+whole_of : (first second : Option (List ℕ)) (table : TableParts) (levels i : ℕ) (taken : List (List ℕ))
+    (block : List ℕ) → length taken ≡ levels → length block ≡ table.block_size →
+    IfSome second (λ hashes. taken ≡ take (length taken) (held_blocks (tree_of table levels) hashes i)) →
+    IfSome first (λ all. take (length block) (drop (i * table.block_size) all) ≡ block) →
+    IfSome first (λ bytes. IfSome second (λ hashes. taken ++ block ∷ []
+    ≡ take (length (taken ++ block ∷ [])) (held_path table levels bytes hashes i)))
+whole_of None second table levels i taken block all one held read = tt
+whole_of (Some bytes) None table levels i taken block all one held read = tt
+whole_of (Some bytes) (Some hashes) table levels i taken block all one held read =
+    let same : block ≡ slice_chunk bytes table.block_size i =
+    sym read ∙ ap (λ (n : ℕ). take n (drop (i * table.block_size) bytes)) one in
+    front_whole (tree_of table levels) hashes i taken block all held
+    ∙ ap (λ last. take (length (taken ++ block ∷ [])) (held_blocks (tree_of table levels) hashes i ++ last ∷ [])) same
+
+-- all the hash blocks and the block of the data are the path
+pub whole_path : (told : Option Contents) (table : TableParts) (levels i : ℕ) (taken : List (List ℕ))
+    (block : List ℕ) → length taken ≡ levels → length block ≡ table.block_size →
+    OfBytes told table.hash_device (λ hashes. taken ≡ take (length taken) (held_blocks (tree_of table levels) hashes i)) →
+    OfBytes told table.device (λ all. take (length block) (drop (i * table.block_size) all) ≡ block) →
+    OfBoth told table (λ bytes hashes. taken ++ block ∷ []
+    ≡ take (length (taken ++ block ∷ [])) (held_path table levels bytes hashes i))
+whole_path None table levels i taken block all one held read = tt
+whole_path (Some items) table levels i taken block all one held read =
+    whole_of (content table.device items) (content table.hash_device items) table levels i taken block all one held read
+
+-- the same of what was read by such a tree, name and size
+pub held_whole : (told now : Option Contents) (table : TableParts) (levels i : ℕ) (tree : Stored) (name : List ℕ)
+    (size : ℕ) (taken longer : List (List ℕ)) (block wanted : List ℕ) → tree ≡ tree_of table levels → now ≡ told →
+    name ≡ table.device → size ≡ table.block_size → length block ≡ table.block_size → LeadsTo tree i taken wanted →
+    longer ≡ taken ++ block ∷ [] →
+    OfBytes told tree.device (λ hashes. taken ≡ take (length taken) (held_blocks tree hashes i)) →
+    OfBytes now name (λ all. take (length block) (drop (i * size) all) ≡ block) →
+    OfBoth told table (λ bytes hashes. longer ≡ take (length longer) (held_path table levels bytes hashes i))
+held_whole told now table levels i tree name size taken longer block wanted is same named sized one leads added held read =
+    let all : length taken ≡ levels = leads.whole ∙ ap (λ (t : Stored). t.levels) is in
+    let front : OfBytes told table.hash_device (λ hashes. taken ≡ take (length taken) (held_blocks (tree_of table
+    levels) hashes i)) =
+    subst (λ (t : Stored). OfBytes told t.device (λ hashes. taken ≡ take (length taken) (held_blocks t hashes i))) is
+    held in
+    let last : OfBytes told table.device (λ all. take (length block) (drop (i * table.block_size) all) ≡ block) =
+    subst (λ items. OfBytes items table.device (λ all. take (length block) (drop (i * table.block_size) all) ≡ block))
+    same
+    (subst (λ (x : List ℕ). OfBytes now x (λ all. take (length block) (drop (i * table.block_size) all) ≡ block)) named
+    (subst (λ (n : ℕ). OfBytes now name (λ all. take (length block) (drop (i * n) all) ≡ block)) sized read)) in
+    subst (λ (path : List (List ℕ)). OfBoth told table (λ bytes hashes. path
+    ≡ take (length path) (held_path table levels bytes hashes i))) (sym added)
+    (whole_path told table levels i taken block all one front last)
+
+found_answer : (table : TableParts) (levels i : ℕ) (taken : List (List ℕ)) (block : List ℕ)
     (result : Result (Unit {0}) VerityError) (first second : Option (List ℕ)) →
-    Answers table height i taken block result →
+    Answers (tree_of table levels) i taken block result →
     (IsErrOf result Missing → (first ≡ None) ⊎ (second ≡ None)) →
     IfSome first (λ bytes. IfSome second (λ hashes.
-    taken ≡ take (length taken) (held_path table height bytes hashes i))) →
-    IfSome first (λ bytes. IfSome second (λ hashes.
-    (IsErrOf result DeviceFault → ⊥) → result ≡ answer_of (failing table i (held_path table height bytes hashes i))))
-found_answer table height i taken block result None second answers missing front = tt
-found_answer table height i taken block result (Some bytes) None answers missing front = tt
-found_answer table height i taken block result (Some bytes) (Some hashes) answers missing front =
-    by_held table height i taken (held_path table height bytes hashes i) block result answers
+    taken ≡ take (length taken) (held_path table levels bytes hashes i))) →
+    IfSome first (λ bytes. IfSome second (λ hashes. (IsErrOf result DeviceFault → ⊥) →
+    result ≡ answer_of (failing (tree_of table levels) i (held_path table levels bytes hashes i))))
+found_answer table levels i taken block result None second answers missing front = tt
+found_answer table levels i taken block result (Some bytes) None answers missing front = tt
+found_answer table levels i taken block result (Some bytes) (Some hashes) answers missing front =
+    by_held (tree_of table levels) i taken (held_path table levels bytes hashes i) block result answers
     (λ is. elim (missing is) [ inl none ↦ none-some bytes (sym none) | inr none ↦ none-some hashes (sym none) ])
-    (length-held_from table bytes hashes i table.hash_start height) front
+    (length-held (tree_of table levels) hashes i (slice_chunk bytes table.block_size i)) front
 
-pub told_answer : (told : Option Contents) (table : TableParts) (height i : ℕ) (taken : List (List ℕ)) (block : List ℕ)
-    (result : Result (Unit {0}) VerityError) →
-    OnOk result (IsChecked table height i taken block) →
-    ((level b : ℕ) → IsErrOf result (Corrupt level b) → FailsAt table height i taken level b) →
+-- the answer by what both devices hold
+pub told_answer : (told : Option Contents) (table : TableParts) (levels i : ℕ) (taken : List (List ℕ)) (block : List ℕ)
+    (result : Result (Unit {0}) VerityError) → Answers (tree_of table levels) i taken block result →
     (IsErrOf result Missing → HasNone told table.device ⊎ HasNone told table.hash_device) →
-    OfBoth told table (λ bytes hashes. taken ≡ take (length taken) (held_path table height bytes hashes i)) →
-    OfBoth told table (λ bytes hashes.
-    (IsErrOf result DeviceFault → ⊥) → result ≡ answer_of (failing table i (held_path table height bytes hashes i)))
-told_answer None table height i taken block result ok corrupt missing front = tt
-told_answer (Some items) table height i taken block result ok corrupt missing front =
-    found_answer table height i taken block result (content table.device items) (content table.hash_device items)
-    (record { ok = ok; corrupt = corrupt }) missing front
+    OfBoth told table (λ bytes hashes. taken ≡ take (length taken) (held_path table levels bytes hashes i)) →
+    OfBoth told table (λ bytes hashes. (IsErrOf result DeviceFault → ⊥) →
+    result ≡ answer_of (failing (tree_of table levels) i (held_path table levels bytes hashes i)))
+told_answer None table levels i taken block result answers missing front = tt
+told_answer (Some items) table levels i taken block result answers missing front =
+    found_answer table levels i taken block result (content table.device items) (content table.hash_device items)
+    answers missing front
 
 -- what follows from what an `Ok` says
 pub after_ok : (result : Result (Unit {0}) VerityError) (P Q : Type 0) → (P → Q) → OnOk result P → OnOk result Q

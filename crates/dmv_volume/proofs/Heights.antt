@@ -14,19 +14,3 @@ three_levels h n L wide few some height = elim (cases_lt 3 L) [
       absurd (omega arith)
   | inr within ↦ within
 ]
-
--- and their number is one alone
-pub same_height : (h n L M : ℕ) → IsHeight h n L → IsHeight h n M → L ≡ M
-same_height h n L M first second = elim (cases_lt L M) [
-  | inl below ↦
-      let more : 0 < (n - 1) / h ^ L = second.least L below in
-      let none : (n - 1) / h ^ L ≡ 0 = first.holds_all in
-      absurd (omega arith)
-  | inr from ↦ elim (cases_lt M L) [
-    | inl below ↦
-        let more : 0 < (n - 1) / h ^ M = first.least M below in
-        let none : (n - 1) / h ^ M ≡ 0 = second.holds_all in
-        absurd (omega arith)
-    | inr other ↦ omega arith
-  ]
-]

@@ -2,8 +2,7 @@
 use Rattle.std.proofs.Common.{◌≡◌, ℕ, ◌≤◌, List, length, Option, None, Some, arith}
 use Rattle.std.specs.Prelude.{IfSome}
 use Rattle.std.specs.Option.{option_map}
-use Rattle.blk_device.specs.Contents.{Contents, HasNone, HasSize, content}
-use Rattle.dmv_volume.specs.Reading.{HasAtLeast}
+use Rattle.blk_device.specs.Contents.{Contents, HasAtLeast, HasNone, HasSize, content}
 
 of_size : (found : Option (List ℕ)) (n need : ℕ) → option_map length found ≡ Some n → need ≤ n →
     IfSome found (λ all. need ≤ length all)

@@ -1,4 +1,4 @@
-ghost use Rattle.dmv_volume.specs.Reading.{HasAtLeast};
+ghost use Rattle.blk_device.specs.Contents.{HasAtLeast};
 ghost use Rattle.hash_tree.specs.Shape.{IsHeight};
 ghost use Rattle.hash_tree.specs.Tree.{fan_out};
 ghost use Rattle.std.specs.Prelude.{◌≡◌, IfOk, IsTrue, length};

@@ -1,6 +1,7 @@
-ghost use Rattle.blk_device.specs.Contents.{HasNone};
-ghost use Rattle.dmv_volume.specs.Reading.{FailsAt, HasAtLeast, IsChecked, IsOfImage, OfBoth, answer_of, failing, held_path};
+ghost use Rattle.blk_device.specs.Contents.{HasAtLeast, HasNone};
+ghost use Rattle.dmv_volume.specs.Reading.{OfBoth, held_path, tree_of};
 ghost use Rattle.dmv_volume.specs.Table.{HasLimits};
+ghost use Rattle.hash_path.specs.Checked.{FailsAt, IsChecked, IsOfImage, answer_of, failing};
 ghost use Rattle.hash_tree.specs.Shape.{IsHeight, blocks_above};
 ghost use Rattle.hash_tree.specs.Tree.{fan_out};
 ghost use Rattle.ipe_words.specs.Count.{Rose};
@@ -71,12 +72,12 @@ impl Volume {
             * self.old.table.block_size) }
 
         // No block of the path fails, and the last is in `out`: that of each image with the declared root.
-        ensures ok { OnOk result (IsChecked self.old.table self.old.levels i self.new.path out.new) }
-        ensures image { OnOk result (IsOfImage self.old.table i self.new.path out.new) }
+        ensures ok { OnOk result (IsChecked (tree_of self.old.table self.old.levels) i self.new.path out.new) }
+        ensures image { OnOk result (IsOfImage (tree_of self.old.table self.old.levels) i self.new.path out.new) }
 
         // The last block of the path that was read is the first that fails.
         ensures corrupt { (level b : ℕ) → IsErrOf result (VerityError.Corrupt level b) →
-            FailsAt self.old.table self.old.levels i self.new.path level b }
+            FailsAt (tree_of self.old.table self.old.levels) i self.new.path level b }
 
         // A device answered so.
         ensures missing { IsErrOf result VerityError.Missing → HasNone (D.contents dev.old) self.old.table.device
@@ -88,7 +89,8 @@ impl Volume {
             ≡ take (length self.new.path) (held_path self.old.table self.old.levels bytes hashes i)) }
         ensures answer { OfBoth (D.contents dev.old) self.old.table (λ bytes hashes.
             (IsErrOf result VerityError.DeviceFault → ⊥) →
-            result ≡ answer_of (failing self.old.table i (held_path self.old.table self.old.levels bytes hashes i))) }
+            result ≡ answer_of (failing (tree_of self.old.table self.old.levels) i
+            (held_path self.old.table self.old.levels bytes hashes i))) }
         ensures cleared { OnErr result (out.new ≡ replicate (length out.old) 0) }
         ensures same { D.contents dev.new ≡ D.contents dev.old }
         ensures never_falls { D.faults dev.old ≤ D.faults dev.new }

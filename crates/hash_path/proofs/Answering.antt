@@ -135,11 +135,13 @@ front_short held path rest is =
     ∙ sym (take-append-le (length path) held rest (omega (arith, length-take (length path) held, ap (λ (xs : List (List ℕ)). length xs) is)))
 
 -- all of them and the block below them are the path
-pub front_whole : (held path : List (List ℕ)) (block : List ℕ) → length path ≡ length held →
-    path ≡ take (length path) held →
-    path ++ block ∷ [] ≡ take (length (path ++ block ∷ [])) (held ++ block ∷ [])
-front_whole held path block long is =
-    let same : path ≡ held = is ∙ take_all (length path) held (omega arith) in
+pub front_whole : (tree : Stored) (bytes : List ℕ) (i : ℕ) (path : List (List ℕ)) (block : List ℕ) →
+    length path ≡ tree.levels → path ≡ take (length path) (held_blocks tree bytes i) →
+    path ++ block ∷ [] ≡ take (length (path ++ block ∷ [])) (held_blocks tree bytes i ++ block ∷ [])
+front_whole tree bytes i path block long is =
+    let held = held_blocks tree bytes i in
+    let all = length-held_from tree bytes i 0 tree.levels in
+    let same : path ≡ held = is ∙ take_all (length path) held (omega (arith, all)) in
     ap (λ xs. xs ++ block ∷ []) same
     ∙ (sym (take_all (length (held ++ block ∷ [])) (held ++ block ∷ []) (omega arith))
     ∙ ap (λ (n : ℕ). take n (held ++ block ∷ [])) (sym (ap (λ (xs : List (List ℕ)). length (xs ++ block ∷ [])) same)))

@@ -1,4 +1,4 @@
 mod Joined
-mod Places
+pub mod Places
 mod Walking
 pub mod Answering

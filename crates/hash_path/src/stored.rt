@@ -1,7 +1,7 @@
 use std::marker::Model;
 
 /// A hash tree that a device stores, and what it is checked against.
-#[derive(Debug)]
+#[derive(Debug, Drop)]
 pub struct StoredTree<'a> {
     /// The name of the device that has the hash blocks.
     pub device: &'a [u8],

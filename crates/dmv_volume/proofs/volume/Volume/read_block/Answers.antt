@@ -1,31 +1,43 @@
-use Rattle.std.proofs.Common.{rules, ◌≡◌, ◌<◌, arith, sym, subst}
+use Rattle.std.proofs.Common.{rules, ◌≡◌, ◌<◌, sym, subst}
 use Rattle.std.specs.Prelude.{IsErrOf, OnOk}
 use Rattle.blk_device.specs.declared.devices.VerityError.TheVariants.{DeviceFault}
-use Rattle.dmv_tree.proofs.Bytes.{wide}
-use Rattle.dmv_volume.specs.Reading.{Attached, IsChecked, IsOfImage, OfBoth, answer_of, failing, held_path}
-use Rattle.dmv_volume.proofs.Answering.{after_ok, of_image, told_answer}
+use Rattle.hash_path.specs.Checked.{IsChecked, IsOfImage, answer_of, failing}
+use Rattle.hash_path.specs.Stored.{HasTree}
+use Rattle.hash_path.proofs.Answering.{of_image}
+use Rattle.dmv_volume.specs.Reading.{Attached, OfBoth, held_path, tree_of}
+use Rattle.dmv_volume.proofs.Answering.{after_ok, has_tree, is_stored, told_answer}
 use Rattle.dmv_volume.proofs.volume.Volume.read_block.Goals as goal
+
+pub take_path-read-requires-clause-tree : goal.take_path-read-requires-clause-tree
+take_path-read-requires-clause-tree g c =
+    is_stored c.self.inside.table c.self.inside.levels c.self.invariant.limits c.self.invariant.height
+
+pub take_path-read-requires-clause-has_tree : goal.take_path-read-requires-clause-has_tree
+take_path-read-requires-clause-has_tree g c =
+    let told = g.D.Devices.contents c.args.dev.now in
+    subst (λ (v : Attached). HasTree told (tree_of v.table v.levels)) (sym c.self.view_is)
+    (has_tree told c.args.self.now.table c.args.self.now.levels c.requires.has_hashes)
 
 pub returns-clause-image : goal.returns-clause-image
 returns-clause-image g c =
     let table = c.self.inside.table in
     let inside : c.args.i < table.blocks =
     subst (λ (v : Attached). c.args.i < v.table.blocks) (sym c.self.view_is) c.requires.block in
-    let right : OnOk c.take_path-read.result (IsChecked table c.self.inside.levels c.args.i
+    let right : OnOk c.take_path-read.result (IsChecked (tree_of table c.self.inside.levels) c.args.i
     c.take_path-read.new.path.items c.if-is_err.out) = search rules in
-    subst (λ (v : Attached). OnOk c.take_path-read.result (IsOfImage v.table c.args.i c.take_path-read.new.path.items
-    c.if-is_err.out)) c.self.view_is
-    (after_ok c.take_path-read.result _ _ (of_image table c.self.inside.levels c.args.i c.take_path-read.new.path.items
-    c.if-is_err.out (omega (arith, wide table.block_size c.self.invariant.limits.block_size)) (omega arith)
-    c.self.invariant.height) right)
+    subst (λ (v : Attached). OnOk c.take_path-read.result (IsOfImage (tree_of v.table v.levels) c.args.i
+    c.take_path-read.new.path.items c.if-is_err.out)) c.self.view_is
+    (after_ok c.take_path-read.result _ _ (of_image (tree_of table c.self.inside.levels) c.args.i
+    c.take_path-read.new.path.items c.if-is_err.out
+    (is_stored table c.self.inside.levels c.self.invariant.limits c.self.invariant.height) inside) right)
 
 pub returns-clause-answer : goal.returns-clause-answer
 returns-clause-answer g c =
     let told = g.D.Devices.contents c.args.dev.now in
-    subst (λ (v : Attached). OfBoth told v.table (λ bytes hashes.
-    (IsErrOf c.take_path-read.result DeviceFault → ⊥) →
-    c.take_path-read.result ≡ answer_of (failing v.table c.args.i (held_path v.table v.levels bytes hashes c.args.i))))
-    c.self.view_is
+    subst (λ (v : Attached). OfBoth told v.table (λ bytes hashes. (IsErrOf c.take_path-read.result DeviceFault → ⊥) →
+    c.take_path-read.result ≡ answer_of (failing (tree_of v.table v.levels) c.args.i (held_path v.table v.levels bytes
+    hashes c.args.i)))) c.self.view_is
     (told_answer told c.self.inside.table c.self.inside.levels c.args.i c.take_path-read.new.path.items
-    c.take_path-read.new.out c.take_path-read.result c.take_path-read.ensures.ok c.take_path-read.ensures.corrupt
+    c.take_path-read.new.out c.take_path-read.result
+    (record { ok = c.take_path-read.ensures.ok; corrupt = c.take_path-read.ensures.corrupt })
     c.take_path-read.ensures.missing c.take_path-read.ensures.held)
