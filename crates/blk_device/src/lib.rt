@@ -1,8 +1,8 @@
 //! Devices: bytes under names, which a program asks for from a place on.
 //!
 //! [`Devices`] is what a reader needs of them. They may fail, and count it. [`MemoryDevices`] fail where it is planned,
-//! [`ImageDevices`] never answer that they failed, and [`FileDevices`] are the files of a system. [`read_exact_at`] fills a
-//! buffer from a device, and [`read_device`] reads one whole.
+//! [`ImageDevices`] never answer that they failed, and [`FileDevices`] are the files of a system. [`read_exact_at`]
+//! fills a buffer from a device, and [`read_device`] reads one whole.
 #![tactic(auto)]
 
 mod devices;

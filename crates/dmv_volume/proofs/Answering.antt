@@ -39,7 +39,8 @@ pub has_tree : (told : Option Contents) (table : TableParts) (levels : ℕ) →
     HasAtLeast told table.hash_device ((table.hash_start + blocks_above (fan_out table.block_size) table.blocks levels)
     * table.block_size) → HasTree told (tree_of table levels)
 has_tree told table levels has =
-    subst (λ (n : ℕ). HasAtLeast told table.hash_device n) (add-mul table.hash_start (blocks_above (fan_out table.block_size) table.blocks levels) table.block_size) has
+    let many = blocks_above (fan_out table.block_size) table.blocks levels in
+    subst (λ (n : ℕ). HasAtLeast told table.hash_device n) (add-mul table.hash_start many table.block_size) has
 
 -- the data device has block i
 pub data_room : (told : Option Contents) (name : List ℕ) (n i size : ℕ) → i < n → HasAtLeast told name (n * size) →
@@ -58,7 +59,8 @@ short_of (Some bytes) (Some hashes) table levels i taken held =
 
 -- the front of the hash blocks is the front of the path
 pub short_path : (told : Option Contents) (table : TableParts) (levels i : ℕ) (taken : List (List ℕ)) →
-    OfBytes told table.hash_device (λ hashes. taken ≡ take (length taken) (held_blocks (tree_of table levels) hashes i)) →
+    OfBytes told table.hash_device (λ hashes.
+    taken ≡ take (length taken) (held_blocks (tree_of table levels) hashes i)) →
     OfBoth told table (λ bytes hashes. taken ≡ take (length taken) (held_path table levels bytes hashes i))
 short_path None table levels i taken held = tt
 short_path (Some items) table levels i taken held =
@@ -81,7 +83,8 @@ whole_of (Some bytes) (Some hashes) table levels i taken block all one held read
 -- all the hash blocks and the block of the data are the path
 pub whole_path : (told : Option Contents) (table : TableParts) (levels i : ℕ) (taken : List (List ℕ))
     (block : List ℕ) → length taken ≡ levels → length block ≡ table.block_size →
-    OfBytes told table.hash_device (λ hashes. taken ≡ take (length taken) (held_blocks (tree_of table levels) hashes i)) →
+    OfBytes told table.hash_device (λ hashes.
+    taken ≡ take (length taken) (held_blocks (tree_of table levels) hashes i)) →
     OfBytes told table.device (λ all. take (length block) (drop (i * table.block_size) all) ≡ block) →
     OfBoth told table (λ bytes hashes. taken ++ block ∷ []
     ≡ take (length (taken ++ block ∷ [])) (held_path table levels bytes hashes i))
@@ -97,7 +100,8 @@ pub held_whole : (told now : Option Contents) (table : TableParts) (levels i : �
     OfBytes told tree.device (λ hashes. taken ≡ take (length taken) (held_blocks tree hashes i)) →
     OfBytes now name (λ all. take (length block) (drop (i * size) all) ≡ block) →
     OfBoth told table (λ bytes hashes. longer ≡ take (length longer) (held_path table levels bytes hashes i))
-held_whole told now table levels i tree name size taken longer block wanted is same named sized one leads added held read =
+held_whole told now table levels i tree name size taken longer block wanted is same named sized one leads added held
+    read =
     let all : length taken ≡ levels = leads.whole ∙ ap (λ (t : Stored). t.levels) is in
     let front : OfBytes told table.hash_device (λ hashes. taken ≡ take (length taken) (held_blocks (tree_of table
     levels) hashes i)) =

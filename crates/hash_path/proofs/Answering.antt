@@ -132,7 +132,11 @@ pub front_short : (held path rest : List (List ℕ)) → path ≡ take (length p
     path ≡ take (length path) (held ++ rest)
 front_short held path rest is =
     is
-    ∙ sym (take-append-le (length path) held rest (omega (arith, length-take (length path) held, ap (λ (xs : List (List ℕ)). length xs) is)))
+    ∙ sym (take-append-le (length path) held rest (omega (
+      arith,
+      length-take (length path) held,
+      ap (λ (xs : List (List ℕ)). length xs) is,
+    )))
 
 -- all of them and the block below them are the path
 pub front_whole : (tree : Stored) (bytes : List ℕ) (i : ℕ) (path : List (List ℕ)) (block : List ℕ) →

@@ -38,7 +38,13 @@ level_within h n k positive some =
 pub above_within : (h n k : ℕ) → 0 < h → 0 < n → blocks_above h n k ≤ k * n
 above_within h n zero positive some = omega (arith, above_none h n)
 above_within h n (suc k) positive some =
-    omega (arith, above_more h n k, level_within h n (suc k) positive some, above_within h n k positive some, suc-mul k n)
+    omega (
+      arith,
+      above_more h n k,
+      level_within h n (suc k) positive some,
+      above_within h n k positive some,
+      suc-mul k n,
+    )
 
 -- a tree has so few blocks that their places are numbers of 64 bits
 pub few_blocks : (tree : Stored) → IsStored tree →

@@ -91,7 +91,7 @@ pub fn check_data_block(
     }
 }
 
-// Reads the block of a tree that has this number, counted from its first.
+// Reads the block of a tree that has this number, counted from its first. Three levels have at most 50,331,648.
 fn read_hash_block<D: Devices>(
     tree: &StoredTree,
     dev: &mut D,

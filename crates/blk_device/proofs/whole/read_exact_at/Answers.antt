@@ -18,8 +18,8 @@ loop-done-preserved g c =
     let long : length after ≡ length before =
     same_len_mid done (length before - done) before tail c.read_at.auto.out in
     record {
-      filled = filled_more (g.D.Devices.contents c.args.devices.now) (g.D.Devices.contents c.loop-done.devices) c.args.name.now
-          c.args.at done c.in_ok-count.count before tail after c.loop-done.invariant.filled c.loop-done.invariant.same
+      filled = filled_more (g.D.Devices.contents c.args.devices.now) (g.D.Devices.contents c.loop-done.devices)
+          c.args.name.now c.args.at done c.in_ok-count.count before tail after c.loop-done.invariant.filled c.loop-done.invariant.same
           c.in_ok-count.ensures.bytes (omega (arith, c.in_ok-count.ensures.bound)) (omega (arith, long))
           (take-put_mid done (length before - done) before tail (done + length tail) refl within);
       same = c.in_ok-count.ensures.same ∙ c.loop-done.invariant.same;
