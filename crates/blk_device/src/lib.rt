@@ -17,7 +17,7 @@ pub use files::FileDevices;
 pub use image::ImageDevices;
 pub use memory::MemoryDevices;
 pub use named_bytes::NamedBytes;
-pub use whole::{ReadDeviceError, read_device, read_exact_at};
+pub use whole::{ReadDeviceError, has_at_least, read_device, read_exact_at};
 
 #[cfg(test)]
 mod tests;

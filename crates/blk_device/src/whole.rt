@@ -1,9 +1,26 @@
 ghost use Rattle.blk_device.specs.Contents.{HasAtLeast, HasContent, HasNone, HasSize, content};
 ghost use Rattle.ipe_words.specs.Count.{Rose};
-ghost use Rattle.std.specs.Prelude.{◌≡◌, ◌+◌, ◌^◌, ◌<◌, ◌≤◌, length, take, drop, IfOk, IfSome, IsErrOf, OnOk};
+ghost use Rattle.std.specs.Prelude.{◌≡◌, ◌+◌, ◌^◌, ◌<◌, ◌≤◌, length, take, drop, false, true, IfOk, IfSome, IsErrOf, OnOk};
 
 use super::{DevError, Devices};
 use std::alloc::Global;
+
+/// Whether a device has at least so many bytes. Those that read a range of it ask for this.
+#[tactic(auto, using(crate::proofs::Needs::size_fits, crate::proofs::Needs::size_short, crate::proofs::Needs::none_fits))]
+pub fn has_at_least<D: Devices>(devices: &mut D, name: &[u8], size: u64) -> Result<bool, DevError>
+    ensures yes { IfOk result (λ has. has ≡ true → HasAtLeast (D.contents devices.old) name.now size) }
+    ensures no { IfOk result (λ has. has ≡ false → IfSome (D.contents devices.old) (λ items.
+        IfSome (content name.now items) (λ all. length all < size))) }
+    ensures missing { IsErrOf result DevError.Missing → HasNone (D.contents devices.old) name.now }
+
+    // One that isn't there meets what is asked of those that are.
+    ensures none_there { IsErrOf result DevError.Missing → HasAtLeast (D.contents devices.old) name.now size }
+    ensures failed { IsErrOf result DevError.Failed → Rose (D.faults devices.old) (D.faults devices.new) }
+    ensures same { D.contents devices.new ≡ D.contents devices.old }
+    ensures never_falls { D.faults devices.old ≤ D.faults devices.new }
+{
+    Ok(size <= devices.size(name)?)
+}
 
 /// Why a whole device was not read.
 #[derive(Clone, Copy, Debug, PartialEq, Eq)]

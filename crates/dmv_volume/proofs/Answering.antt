@@ -1,5 +1,5 @@
 -- What a call of `read_block` answers.
-use Rattle.std.proofs.Common.{◌≡◌, ℕ, ◌+◌, ◌*◌, ◌<◌, List, [], ◌∷◌, ◌++◌, length, take, drop, Option, None, Some, Result, Ok, Err, ap, sym, ◌∙◌, subst, arith, inl, inr}
+use Rattle.std.proofs.Common.{◌≡◌, ℕ, ◌+◌, ◌*◌, ◌<◌, List, [], ◌∷◌, ◌++◌, length, take, drop, get_or, Option, None, Some, Result, Ok, Err, ap, sym, ◌∙◌, subst, arith, inl, inr}
 use Rattle.std.specs.Prelude.{IfSome, IsErrOf, OnOk, ◌⊎◌}
 use Rattle.std.specs.Fork.{slice_chunk}
 use Rattle.std.proofs.lemmas.Nat.{mul-le}
@@ -12,12 +12,13 @@ use Rattle.dmv_tree.proofs.Bytes.{hash_size, wide}
 use Rattle.hash_tree.specs.Shape.{IsHeight, blocks_above}
 use Rattle.hash_tree.specs.Tree.{fan_out}
 use Rattle.hash_path.specs.Checked.{LeadsTo, answer_of, failing}
-use Rattle.hash_path.specs.Stored.{HasTree, IsStored, OfBytes, Stored, held_blocks}
+use Rattle.hash_path.specs.Stored.{HasTree, HoldsTreeOf, IsStored, OfBytes, Stored, held_blocks}
 use Rattle.hash_path.proofs.Answering.{Answers, by_held, front_short, front_whole, length-held}
+use Rattle.hash_path.proofs.HeldTrees.{held_right}
+use Rattle.hash_path.proofs.Heights.{three_levels}
 use Rattle.hash_path.proofs.Places.{at_least_less, ends_within}
 use Rattle.dmv_volume.specs.Reading.{OfBoth, held_path, tree_of}
 use Rattle.dmv_volume.specs.Table.{HasLimits, TableParts}
-use Rattle.dmv_volume.proofs.Heights.{three_levels}
 
 -- a table's tree is one that devices store
 pub is_stored : (table : TableParts) (levels : ℕ) → HasLimits table →
@@ -29,7 +30,7 @@ is_stored table levels limits height =
       some = limits.some;
       few = omega (arith, limits.few);
       height = height;
-      low = three_levels (fan_out table.block_size) table.blocks levels (wide table.block_size limits.block_size)
+      low = three_levels 16 (fan_out table.block_size) table.blocks levels (wide table.block_size limits.block_size)
           limits.few limits.some height;
       start = omega (arith, mul-le table.hash_start table.block_size 1048576 4096 limits.hash_start size.small);
     }
@@ -142,6 +143,34 @@ told_answer None table levels i taken block result answers missing front = tt
 told_answer (Some items) table levels i taken block result answers missing front =
     found_answer table levels i taken block result (content table.device items) (content table.hash_device items)
     answers missing front
+
+found_complete : (table : TableParts) (levels i : ℕ) (result : Result (Unit {0}) VerityError)
+    (first second : Option (List ℕ)) → IsStored (tree_of table levels) → i < table.blocks →
+    IfSome first (λ bytes. IfSome second (λ hashes. (IsErrOf result DeviceFault → ⊥) →
+    result ≡ answer_of (failing (tree_of table levels) i (held_path table levels bytes hashes i)))) →
+    IfSome first (λ bytes. IfSome second (λ hashes. (image : List (List ℕ)) →
+    HoldsTreeOf (tree_of table levels) hashes image → slice_chunk bytes table.block_size i ≡ get_or image i [] →
+    (IsErrOf result DeviceFault → ⊥) → result ≡ Ok tt))
+found_complete table levels i result None second stored inside answer = tt
+found_complete table levels i result (Some bytes) None stored inside answer = tt
+found_complete table levels i result (Some bytes) (Some hashes) stored inside answer = λ image holds same sound.
+    let tree = tree_of table levels in
+    let right = held_right tree hashes image i stored holds inside in
+    answer sound
+    ∙ (ap (λ x. answer_of (failing tree i (held_blocks tree hashes i ++ x ∷ []))) same
+    ∙ ap answer_of right.1)
+
+-- nothing fails where the devices hold an image and its tree
+pub complete : (told : Option Contents) (table : TableParts) (levels i : ℕ) (result : Result (Unit {0}) VerityError) →
+    IsStored (tree_of table levels) → i < table.blocks →
+    OfBoth told table (λ bytes hashes. (IsErrOf result DeviceFault → ⊥) →
+    result ≡ answer_of (failing (tree_of table levels) i (held_path table levels bytes hashes i))) →
+    OfBoth told table (λ bytes hashes. (image : List (List ℕ)) → HoldsTreeOf (tree_of table levels) hashes image →
+    slice_chunk bytes table.block_size i ≡ get_or image i [] → (IsErrOf result DeviceFault → ⊥) → result ≡ Ok tt)
+complete None table levels i result stored inside answer = tt
+complete (Some items) table levels i result stored inside answer =
+    found_complete table levels i result (content table.device items) (content table.hash_device items) stored inside
+    answer
 
 -- what follows from what an `Ok` says
 pub after_ok : (result : Result (Unit {0}) VerityError) (P Q : Type 0) → (P → Q) → OnOk result P → OnOk result Q

@@ -1,5 +1,3 @@
 mod Spelled
 mod Fitting
-mod Heights
-pub mod Needs
 mod Answering

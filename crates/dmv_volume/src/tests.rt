@@ -4,7 +4,7 @@ ghost use Rattle.hash_tree.specs.Tree.{fan_out};
 ghost use Rattle.std.specs.Prelude.{◌≡◌, IfOk, IsTrue, length};
 
 use super::*;
-use blk_device::{DevError, Devices, ImageDevices, MemoryDevices, NamedBytes, VerityError};
+use blk_device::{DevError, Devices, ImageDevices, MemoryDevices, NamedBytes, VerityError, has_at_least};
 use ipe_words::Bytes;
 use std::alloc::{AllocError, Global};
 use std::test::Fail;
@@ -40,16 +40,11 @@ fn named(alloc: Global, data: Vec<u8>, hashes: Vec<u8>) -> Result<NamedBytes, Al
 }
 
 // Whether a device has so many bytes, or isn't there.
-#[tactic(auto, using(crate::proofs::Needs::size_fits, crate::proofs::Needs::none_fits))]
 fn has_room<D: Devices>(devices: &mut D, name: &[u8], need: u64) -> bool
     ensures room { IsTrue result → HasAtLeast (D.contents devices.old) name.now need }
     ensures same { D.contents devices.new ≡ D.contents devices.old }
 {
-    match devices.size(name) {
-        Ok(size) => need <= size,
-        Err(DevError::Missing) => true,
-        Err(DevError::Failed) => false,
-    }
+    matches!(has_at_least(devices, name, need), Ok(true) | Err(DevError::Missing))
 }
 
 // Reads a block where both devices are large enough, after two calls that ask for their sizes.

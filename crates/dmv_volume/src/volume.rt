@@ -2,10 +2,13 @@ ghost use Rattle.blk_device.specs.Contents.{HasAtLeast, HasNone};
 ghost use Rattle.dmv_volume.specs.Reading.{OfBoth, held_path, tree_of};
 ghost use Rattle.dmv_volume.specs.Table.{HasLimits};
 ghost use Rattle.hash_path.specs.Checked.{FailsAt, IsChecked, IsOfImage, answer_of, failing};
+ghost use Rattle.hash_path.specs.Stored.{HoldsTreeOf};
 ghost use Rattle.hash_tree.specs.Shape.{IsHeight, blocks_above};
 ghost use Rattle.hash_tree.specs.Tree.{fan_out};
 ghost use Rattle.ipe_words.specs.Count.{Rose};
-ghost use Rattle.std.specs.Prelude.{◌≡◌, ◌+◌, ◌*◌, ◌<◌, ◌≤◌, ◌⊎◌, ℕ, [], length, replicate, take, IfOk, IsErrOf, OnErr, OnOk};
+ghost use Rattle.std.specs.Fork.{slice_chunk};
+ghost use Rattle.std.specs.Prelude.{◌≡◌, ◌+◌, ◌*◌, ◌<◌, ◌≤◌, ◌⊎◌, ℕ, List, Ok, [], length, replicate, slice_index_or, take, IfOk};
+ghost use Rattle.std.specs.Prelude.{IsErrOf, OnErr, OnOk};
 
 use crate::reading::take_path;
 use crate::{BlockPath, Table};
@@ -91,6 +94,12 @@ impl Volume {
             (IsErrOf result VerityError.DeviceFault → ⊥) →
             result ≡ answer_of (failing (tree_of self.old.table self.old.levels) i
             (held_path self.old.table self.old.levels bytes hashes i))) }
+
+        // Where the devices hold an image and its tree under the root, only a device's failure is an error.
+        ensures complete { OfBoth (D.contents dev.old) self.old.table (λ bytes hashes. (image : List (List ℕ)) →
+            HoldsTreeOf (tree_of self.old.table self.old.levels) hashes image →
+            slice_chunk bytes self.old.table.block_size i ≡ slice_index_or image i [] →
+            (IsErrOf result VerityError.DeviceFault → ⊥) → result ≡ Ok tt) }
         ensures cleared { OnErr result (out.new ≡ replicate (length out.old) 0) }
         ensures same { D.contents dev.new ≡ D.contents dev.old }
         ensures never_falls { D.faults dev.old ≤ D.faults dev.new }

@@ -33,7 +33,7 @@ unfolding file_tree
 tree_is size salt bytes = refl
 
 -- no salt, and another
-pub salt_none : (salt : List ℕ) → length salt ≡ 0 → block_salt salt ≡ salt
+pub salt_none : (salt : List ℕ) → length salt ≡ 0 → block_salt salt ≡ []
 unfolding block_salt
 salt_none [] none = refl
 salt_none (byte ∷ more) none = absurd (omega arith)

@@ -89,6 +89,19 @@ impl Descriptor {
         }
     }
 
+    /// The same descriptor once more.
+    pub fn copy(&self) -> Descriptor
+        ensures { result ≡ self.now }
+    {
+        Descriptor {
+            log: self.log,
+            salt_size: self.salt_size,
+            salt: self.salt,
+            size: self.size,
+            root: self.root,
+        }
+    }
+
     /// The 256 bytes, of which `read` makes the same descriptor again.
     pub fn write(&self) -> [u8; 256]
         ensures bytes { result ≡ spelling self.now }
@@ -142,6 +155,7 @@ impl Descriptor {
     pub fn tree_blocks(&self) -> u64
         ensures count { HasHashBlocks (fan_out (2 ^ self.now.log)) (div_ceil self.now.size (2 ^ self.now.log)) result }
         ensures none { div_ceil self.now.size (2 ^ self.now.log) ≤ 1 → result ≡ 0 }
+        ensures few { result ≤ 16384 }
     {
         let blocks = self.blocks();
         if blocks == 0 {
@@ -151,11 +165,10 @@ impl Descriptor {
     }
 
     /// The root, 32 bytes of SHA-256; of an empty file, zeros.
-    pub fn root(&self) -> &[u8]
-        ensures value { result.now ≡ self.now.root }
-        ensures len { length result.now ≡ 32 }
+    pub fn root(&self) -> [u8; 32]
+        ensures { result ≡ self.now.root }
     {
-        &self.root
+        self.root
     }
 
     /// The salt, of 0 to 32 bytes.

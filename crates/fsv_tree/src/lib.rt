@@ -7,9 +7,11 @@
 mod descriptor;
 mod measure;
 mod rows;
+mod salt;
 
 pub use descriptor::{BadDescriptor, Descriptor};
 pub use measure::{Measured, measure_bytes};
+pub use salt::BlockSalt;
 
 #[cfg(test)]
 mod tests;

@@ -2,7 +2,7 @@ ghost use Rattle.fsv_tree.specs.Blocks.{is_block_size};
 ghost use Rattle.fsv_tree.specs.File.{described, file_root, file_tree};
 ghost use Rattle.std.specs.Prelude.{◌≡◌, ◌≤◌, length, IsTrue, IfOk};
 
-use crate::Descriptor;
+use crate::{BlockSalt, Descriptor};
 use hash_tree::Tree;
 use std::alloc::{AllocError, Global};
 use std::marker::Model;
@@ -62,7 +62,7 @@ pub fn measure_bytes(
     })
 }
 
-// The root and the stored tree of a file. A salt is filled to 64 bytes, the size of SHA-256's own blocks.
+// The root and the stored tree of a file.
 fn hash_file(alloc: Global, bytes: &[u8], block_size: u32, salt: &[u8]) -> Result<Tree, AllocError>
     requires few { length bytes.now ≤ 16777216 }
     requires size { IsTrue (is_block_size block_size) }
@@ -76,10 +76,5 @@ fn hash_file(alloc: Global, bytes: &[u8], block_size: u32, salt: &[u8]) -> Resul
             stored: Vec::new(alloc),
         });
     }
-    if salt.is_empty() {
-        return hash_tree::build(alloc, bytes, block_size, salt);
-    }
-    let mut padded = [0; 64];
-    padded[..salt.len()].copy_from_slice(salt);
-    hash_tree::build(alloc, bytes, block_size, &padded)
+    hash_tree::build(alloc, bytes, block_size, BlockSalt::new(salt).as_slice())
 }

@@ -1,7 +1,6 @@
 -- What a checked read answers.
-use Rattle.std.proofs.Common.{◌≡◌, ℕ, zero, suc, ◌+◌, ◌-◌, ◌/◌, ◌^◌, ◌<◌, ◌≤◌, List, [], ◌∷◌, ◌++◌, length, take, drop, get_or, Option, None, Some, Result, Ok, Err, ap, refl, sym, ◌∙◌, subst, arith, inl, inr}
+use Rattle.std.proofs.Common.{◌≡◌, ℕ, zero, suc, ◌+◌, ◌-◌, ◌<◌, ◌≤◌, List, [], ◌∷◌, ◌++◌, length, take, drop, get_or, Option, None, Some, Result, Ok, Err, ap, refl, sym, ◌∙◌, subst, arith, inl, inr}
 use Rattle.std.specs.Prelude.{IfSome, IsErrOf, OnOk}
-use Rattle.std.proofs.lemmas.Bool.{cases_lt}
 use Rattle.std.proofs.lemmas.List.{length-append, length-drop, length-take, take-append-drop, take-append-le, take_all}
 use Rattle.std.proofs.lemmas.Option.{none-some}
 use Rattle.blk_device.specs.Contents.{Contents, HasNone, content}
@@ -15,23 +14,8 @@ use Rattle.hash_tree.proofs.Paths.{checked}
 use Rattle.hash_tree.proofs.Shapes.{levels_height}
 use Rattle.hash_path.specs.Checked.{CheckedBlocksAreOfTheImage, FailsAt, IsChecked, answer_of, failing}
 use Rattle.hash_path.specs.Stored.{OfBytes, Stored, held_blocks}
+use Rattle.hash_path.proofs.Heights.{same_height}
 use Rattle.hash_path.proofs.Walking.{length-held_from}
-
--- a height is one alone
-same_height : (h n L M : ℕ) → IsHeight h n L → IsHeight h n M → L ≡ M
-same_height h n L M first second = elim (cases_lt L M) [
-  | inl below ↦
-      let more : 0 < (n - 1) / h ^ L = second.least L below in
-      let none : (n - 1) / h ^ L ≡ 0 = first.holds_all in
-      absurd (omega arith)
-  | inr from ↦ elim (cases_lt M L) [
-    | inl below ↦
-        let more : 0 < (n - 1) / h ^ M = first.least M below in
-        let none : (n - 1) / h ^ M ≡ 0 = second.holds_all in
-        absurd (omega arith)
-    | inr other ↦ omega arith
-  ]
-]
 
 length-path_below : (h : ℕ) (all : List (List (List ℕ))) (i count : ℕ) → length (path_below h all i count) ≡ count
 unfolding path_below

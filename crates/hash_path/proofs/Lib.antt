@@ -1,4 +1,6 @@
 mod Joined
 pub mod Places
-mod Walking
+pub mod Walking
+pub mod Heights
+pub mod HeldTrees
 pub mod Answering

@@ -25,11 +25,13 @@ pub record IsStored (tree : Stored) : Type 0 where
   pub low : tree.levels ≤ 3
   pub start : tree.start < 2 ^ 62
 
+-- the byte at which a stored tree ends
+abbrev pub end_of : Stored → ℕ
+end_of tree = tree.start + blocks_above (fan_out tree.block_size) tree.blocks tree.levels * tree.block_size
+
 -- where the contents are told and the device is there, it has the whole tree
 abbrev pub HasTree : Option Contents → Stored → Type 0
-HasTree told tree =
-    HasAtLeast told tree.device
-    (tree.start + blocks_above (fan_out tree.block_size) tree.blocks tree.levels * tree.block_size)
+HasTree told tree = HasAtLeast told tree.device (end_of tree)
 
 -- where the contents are told and a device has the name, this is true of its bytes
 abbrev pub OfBytes : Option Contents → List ℕ → (List ℕ → Type 0) → Type 0

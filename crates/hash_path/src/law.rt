@@ -5,3 +5,9 @@ ghost use Rattle.hash_path.specs.Checked.{CheckedBlocksAreOfTheImage, HeldTreesA
 pub fn checked_blocks_are_of_the_image()
     ensures { CheckedBlocksAreOfTheImage }
 {}
+
+/// Where a device holds the stored tree of an image under its root, the path to each of the image's blocks is the
+/// image's own, and nothing fails on it. The call does nothing: its contract is the law.
+pub fn held_trees_are_right()
+    ensures { HeldTreesAreRight }
+{}

@@ -11,7 +11,7 @@ mod path;
 mod stored;
 mod taking;
 
-pub use law::checked_blocks_are_of_the_image;
+pub use law::{checked_blocks_are_of_the_image, held_trees_are_right};
 pub use path::BlockPath;
 pub use stored::StoredTree;
 pub use taking::{check_data_block, take_hash_blocks};

@@ -81,24 +81,28 @@ hash_blocks_sizes size salt blocks = All-from_get_or (λ block. length block ≡
     ∙ length-filled size (concat (take (fan_out size) (drop (k * fan_out size) (map (salted salt) blocks))))
     (group_fits size salt blocks (k * fan_out size)))
 
--- one digest in bytes that are joined
-digest_of_group : (group : List (List ℕ)) (rest : List ℕ) (p : ℕ) → All (λ digest. length digest ≡ 32) group →
-    p < length group →
-    take 32 (drop (32 * p) (concat group ++ rest)) ≡ get_or group p []
-digest_of_group [] rest p all within = absurd (omega arith)
-digest_of_group (digest ∷ group) rest zero all within =
-    let here : length digest ≡ 32 = All-head (λ d. length d ≡ 32) digest group all in
-    ap (λ xs. take 32 xs) (append_assoc digest (concat group) rest) ∙ take_at digest (concat group ++ rest) 32 here
-digest_of_group (digest ∷ group) rest (suc p) all within =
-    let here : length digest ≡ 32 = All-head (λ d. length d ≡ 32) digest group all in
-    let more = digest_of_group group rest p (All-tail (λ d. length d ≡ 32) digest group all) (omega arith) in
-    let step : 32 * suc p ≡ 32 + 32 * p = omega arith in
-    let behind = drop_at digest (concat group ++ rest) 32 here in
-    let joined = append_assoc digest (concat group) rest in
-    ap (λ xs. take 32 xs)
-    (ap (λ (x : ℕ). drop x ((digest ++ concat group) ++ rest)) step
-    ∙ (sym (drop-drop (32 * p) 32 ((digest ++ concat group) ++ rest))
-    ∙ ap (λ xs. drop (32 * p) xs) (ap (λ xs. drop 32 xs) joined ∙ behind)))
+-- one part of lists of one length that are joined
+pub part_of_joined : (width : ℕ) (parts : List (List ℕ)) (rest : List ℕ) (p : ℕ) →
+    All (λ part. length part ≡ width) parts → p < length parts →
+    take width (drop (p * width) (concat parts ++ rest)) ≡ get_or parts p []
+part_of_joined width [] rest p all within = absurd (omega arith)
+part_of_joined width (part ∷ parts) rest zero all within =
+    let here : length part ≡ width = All-head (λ d. length d ≡ width) part parts all in
+    let front : 0 * width ≡ 0 = omega arith in
+    ap (λ (x : ℕ). take width (drop x ((part ++ concat parts) ++ rest))) front
+    ∙ (ap (λ xs. take width xs) (append_assoc part (concat parts) rest)
+    ∙ take_at part (concat parts ++ rest) width here)
+part_of_joined width (part ∷ parts) rest (suc p) all within =
+    let here : length part ≡ width = All-head (λ d. length d ≡ width) part parts all in
+    let more = part_of_joined width parts rest p (All-tail (λ d. length d ≡ width) part parts all) (omega arith) in
+    let product : suc p * width ≡ p * width + width = suc-mul p width in
+    let step : suc p * width ≡ width + p * width = omega arith in
+    let behind = drop_at part (concat parts ++ rest) width here in
+    let joined = append_assoc part (concat parts) rest in
+    ap (λ xs. take width xs)
+    (ap (λ (x : ℕ). drop x ((part ++ concat parts) ++ rest)) step
+    ∙ (sym (drop-drop (p * width) width ((part ++ concat parts) ++ rest))
+    ∙ ap (λ xs. drop (p * width) xs) (ap (λ xs. drop width xs) joined ∙ behind)))
     ∙ more
 
 -- the digest of block j stands in the hash block over it, at its place
@@ -122,11 +126,13 @@ digest_over size salt blocks j positive within over =
       length-take h (drop (j / h * h) digests),
       length-drop (j / h * h) digests,
     ) in
+    let place : 32 * (j % h) ≡ j % h * 32 = omega arith in
     ap (λ xs. digest_in (j % h) xs) (get_or-hash_blocks size salt blocks (j / h) [] over)
-    ∙ (digest_of_group group (replicate (size - length (concat group)) 0) (j % h) whole inside
+    ∙ (ap (λ (x : ℕ). take 32 (drop x (filled size (concat group)))) place
+    ∙ (part_of_joined 32 group (replicate (size - length (concat group)) 0) (j % h) whole inside
     ∙ (get_or-take h (drop (j / h * h) digests) (j % h) [] low
     ∙ (get_or-drop (j / h * h) digests (j % h) []
-    ∙ (ap (λ (x : ℕ). get_or digests x []) split ∙ get_or-map (salted salt) blocks j [] [] within))))
+    ∙ (ap (λ (x : ℕ). get_or digests x []) split ∙ get_or-map (salted salt) blocks j [] [] within)))))
 
 -- what is left of two numbers, each with the same added
 same_rest : (a b c d size : ℕ) → c ≡ a + size → size + b ≡ d → a - b ≡ c - d

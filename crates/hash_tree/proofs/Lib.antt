@@ -2,6 +2,7 @@ pub mod Numbers
 pub mod Groups
 pub mod HashBlocks
 pub mod Levels
+pub mod StoredTrees
 pub mod Shapes
 pub mod Heights
 pub mod Bytes

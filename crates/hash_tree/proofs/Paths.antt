@@ -132,7 +132,7 @@ unfolding root
 root_is size salt blocks = refl
 
 -- the block of the lowest level is the image's
-bottom : (size : ℕ) (salt : List ℕ) (blocks : List (List ℕ)) (i : ℕ) →
+pub bottom : (size : ℕ) (salt : List ℕ) (blocks : List (List ℕ)) (i : ℕ) →
     get_or (get_or (levels size salt blocks) 0 []) (i / fan_out size ^ 0) [] ≡ get_or blocks i []
 bottom size salt blocks i =
     let by_one : i / fan_out size ^ 0 ≡ i = ap (λ (x : ℕ). i / x) (pow-zero (fan_out size)) ∙ div-one i in

@@ -2,10 +2,10 @@ use Rattle.std.proofs.Common.{rules, ◌≡◌, ◌<◌, sym, subst}
 use Rattle.std.specs.Prelude.{IsErrOf, OnOk}
 use Rattle.blk_device.specs.declared.devices.VerityError.TheVariants.{DeviceFault}
 use Rattle.hash_path.specs.Checked.{IsChecked, IsOfImage, answer_of, failing}
-use Rattle.hash_path.specs.Stored.{HasTree}
+use Rattle.hash_path.specs.Stored.{HasTree, IsStored}
 use Rattle.hash_path.proofs.Answering.{of_image}
 use Rattle.dmv_volume.specs.Reading.{Attached, OfBoth, held_path, tree_of}
-use Rattle.dmv_volume.proofs.Answering.{after_ok, has_tree, is_stored, told_answer}
+use Rattle.dmv_volume.proofs.Answering.{after_ok, complete, has_tree, is_stored, told_answer}
 use Rattle.dmv_volume.proofs.volume.Volume.read_block.Goals as goal
 
 pub take_path-read-requires-clause-tree : goal.take_path-read-requires-clause-tree
@@ -41,3 +41,12 @@ returns-clause-answer g c =
     c.take_path-read.new.out c.take_path-read.result
     (record { ok = c.take_path-read.ensures.ok; corrupt = c.take_path-read.ensures.corrupt })
     c.take_path-read.ensures.missing c.take_path-read.ensures.held)
+
+pub returns-clause-complete : goal.returns-clause-complete
+returns-clause-complete g c =
+    let volume = c.args.self.now in
+    let stored : IsStored (tree_of volume.table volume.levels) =
+    subst (λ (v : Attached). IsStored (tree_of v.table v.levels)) c.self.view_is
+    (is_stored c.self.inside.table c.self.inside.levels c.self.invariant.limits c.self.invariant.height) in
+    complete (g.D.Devices.contents c.args.dev.now) volume.table volume.levels c.args.i c.take_path-read.result stored
+    c.requires.block (returns-clause-answer g c)

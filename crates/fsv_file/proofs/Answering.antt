@@ -1,0 +1,117 @@
+-- What a call of `check_block` answers.
+use Rattle.std.proofs.Common.{◌≡◌, ℕ, ◌<◌, ◌≤◌, List, [], ◌∷◌, ◌++◌, length, take, get_or, Option, Result, Ok, Err, ap, sym, ◌∙◌, arith, inl, inr}
+use Rattle.std.specs.Prelude.{IsErrOf, IsTrue, OnOk}
+use Rattle.std.specs.Int.{div_ceil}
+use Rattle.std.proofs.lemmas.Bool.{cases_lt}
+use Rattle.blk_device.specs.Contents.{Contents}
+use Rattle.blk_device.specs.declared.devices.VerityError.{VerityError}
+use Rattle.blk_device.specs.declared.devices.VerityError.TheVariants.{DeviceFault}
+use Rattle.fsv_tree.specs.Blocks.{is_block_size}
+use Rattle.fsv_tree.proofs.Counts.{hash_size, size_cases}
+use Rattle.fsv_tree.proofs.Files.{root_some}
+use Rattle.hash_path.specs.Checked.{IsOfImage, answer_of, failing}
+use Rattle.hash_path.specs.Stored.{HoldsTreeOf, IsStored, OfBytes, Stored, held_blocks}
+use Rattle.hash_path.proofs.Answering.{front_short, front_whole}
+use Rattle.hash_path.proofs.HeldTrees.{held_right}
+use Rattle.hash_path.proofs.Heights.{three_levels}
+use Rattle.hash_path.proofs.Walking.{of_both}
+use Rattle.hash_tree.specs.Shape.{IsHeight}
+use Rattle.hash_tree.specs.Tree.{data_blocks, fan_out}
+use Rattle.hash_tree.proofs.Bytes.{length-data_blocks}
+use Rattle.hash_tree.proofs.Numbers.{div_ceil_none}
+use Rattle.fsv_file.specs.File.{Attached, IsOfFile, block_size_of, blocks_of, tree_of}
+
+-- a file's blocks have three levels above them at most
+pub low : (size n L : ℕ) → IsTrue (is_block_size size) → n ≤ 16384 → 1 ≤ n → IsHeight (fan_out size) n L → L ≤ 3
+low size n L is few some height =
+    let wide : 32 ≤ fan_out size =
+    size_cases size (λ x. 32 ≤ fan_out x) (omega arith) (omega arith) (omega arith) is in
+    three_levels 32 (fan_out size) n L wide (omega arith) some height
+
+-- the tree of a file that has a block is one that devices store
+pub is_stored : (file : Attached) → IsTrue (is_block_size (block_size_of file.descriptor)) →
+    1 ≤ blocks_of file.descriptor → blocks_of file.descriptor ≤ 16384 →
+    IsHeight (fan_out (block_size_of file.descriptor)) (blocks_of file.descriptor) file.levels → file.levels ≤ 3 →
+    file.tree_at ≤ 16777216 → IsStored (tree_of file)
+is_stored file is some few height levels start = record {
+  size = hash_size (block_size_of file.descriptor) is;
+  some = some;
+  few = omega (arith, few);
+  height = height;
+  low = levels;
+  start = omega (arith, start);
+}
+
+-- the hash blocks that were taken are the front of the path
+pub short_path : (told : Option Contents) (tree : Stored) (i : ℕ) (taken : List (List ℕ)) (block : List ℕ) →
+    OfBytes told tree.device (λ bytes. taken ≡ take (length taken) (held_blocks tree bytes i)) →
+    OfBytes told tree.device (λ bytes. taken ≡ take (length taken) (held_blocks tree bytes i ++ block ∷ []))
+short_path told tree i taken block held =
+    of_both told tree.device
+    (λ bytes. taken ≡ take (length taken) (held_blocks tree bytes i))
+    (λ bytes. taken ≡ take (length taken) (held_blocks tree bytes i))
+    (λ bytes. taken ≡ take (length taken) (held_blocks tree bytes i ++ block ∷ []))
+    (λ bytes is _. front_short (held_blocks tree bytes i) taken (block ∷ []) is) held held
+
+-- all of them and the block are the path
+pub whole_path : (told : Option Contents) (tree : Stored) (i : ℕ) (taken : List (List ℕ)) (block : List ℕ) →
+    length taken ≡ tree.levels →
+    OfBytes told tree.device (λ bytes. taken ≡ take (length taken) (held_blocks tree bytes i)) →
+    OfBytes told tree.device (λ bytes.
+    taken ++ block ∷ [] ≡ take (length (taken ++ block ∷ [])) (held_blocks tree bytes i ++ block ∷ []))
+whole_path told tree i taken block all held =
+    of_both told tree.device
+    (λ bytes. taken ≡ take (length taken) (held_blocks tree bytes i))
+    (λ bytes. taken ≡ take (length taken) (held_blocks tree bytes i))
+    (λ bytes. taken ++ block ∷ [] ≡ take (length (taken ++ block ∷ [])) (held_blocks tree bytes i ++ block ∷ []))
+    (λ bytes is _. front_whole tree bytes i taken block all is) held held
+
+-- a block of each image is a block of each file
+pub of_file : (file : Attached) (i : ℕ) (taken : List (List ℕ)) (block : List ℕ) →
+    IsTrue (is_block_size (block_size_of file.descriptor)) → i < blocks_of file.descriptor →
+    IsOfImage (tree_of file) i taken block → IsOfFile file i taken block
+of_file file i taken block is inside image bytes count declared =
+    let size = block_size_of file.descriptor in
+    let positive : 0 < size = size_cases size (λ x. 0 < x) (omega arith) (omega arith) (omega arith) is in
+    let blocks : length (data_blocks size bytes) ≡ blocks_of file.descriptor =
+    length-data_blocks size bytes ∙ ap (λ (n : ℕ). div_ceil n size) count in
+    elim (cases_lt 0 (length bytes)) [
+      | inl some ↦
+          image (data_blocks size bytes) blocks (sym (root_some size file.descriptor.salt bytes some) ∙ declared)
+      | inr none ↦
+          let empty : div_ceil (length bytes) size ≡ 0 =
+          ap (λ (n : ℕ). div_ceil n size) (omega arith) ∙ div_ceil_none size positive in
+          let all : length (data_blocks size bytes) ≡ div_ceil (length bytes) size = length-data_blocks size bytes in
+          absurd (omega arith)
+    ]
+
+-- nothing fails where the device holds the tree of a file
+pub complete : (told : Option Contents) (file : Attached) (i : ℕ) (block : List ℕ)
+    (result : Result (Unit {0}) VerityError) → IsStored (tree_of file) → i < blocks_of file.descriptor →
+    OfBytes told file.device (λ bytes. (IsErrOf result DeviceFault → ⊥) →
+    result ≡ answer_of (failing (tree_of file) i (held_blocks (tree_of file) bytes i ++ block ∷ []))) →
+    OfBytes told file.device (λ bytes. (all : List ℕ) → length all ≡ file.descriptor.size →
+    HoldsTreeOf (tree_of file) bytes (data_blocks (block_size_of file.descriptor) all) →
+    block ≡ get_or (data_blocks (block_size_of file.descriptor) all) i [] →
+    (IsErrOf result DeviceFault → ⊥) → result ≡ Ok tt)
+complete told file i block result stored inside answer =
+    let tree = tree_of file in
+    let size = block_size_of file.descriptor in
+    of_both told file.device
+    (λ bytes. (IsErrOf result DeviceFault → ⊥) →
+    result ≡ answer_of (failing tree i (held_blocks tree bytes i ++ block ∷ [])))
+    (λ bytes. (IsErrOf result DeviceFault → ⊥) →
+    result ≡ answer_of (failing tree i (held_blocks tree bytes i ++ block ∷ [])))
+    (λ bytes. (all : List ℕ) → length all ≡ file.descriptor.size → HoldsTreeOf tree bytes (data_blocks size all) →
+    block ≡ get_or (data_blocks size all) i [] → (IsErrOf result DeviceFault → ⊥) → result ≡ Ok tt)
+    (λ bytes answered _ all count holds same sound.
+    let right = held_right tree bytes (data_blocks size all) i stored holds inside in
+    answered sound
+    ∙ (ap (λ x. answer_of (failing tree i (held_blocks tree bytes i ++ x ∷ []))) same
+    ∙ ap answer_of right.1))
+    answer answer
+
+-- what follows from what an `Ok` says
+pub after_ok : (result : Result (Unit {0}) VerityError) (P Q : Type 0) → (P → Q) → OnOk result P → OnOk result Q
+after_ok (Ok tt) P Q each p = each p
+after_ok (Err e) P Q each p = tt

@@ -1,0 +1,64 @@
+-- Checking the blocks of a file against its fs-verity descriptor.
+use Rattle.std.specs.Prelude.{◌≡◌, ℕ, ◌+◌, ◌^◌, ◌≤◌, List, [], ◌∷◌, ◌++◌, length, slice_index_or, ◌⊎◌}
+use Rattle.std.specs.Int.{div_ceil}
+use Rattle.fsv_tree.specs.Blocks.{block_salt}
+use Rattle.fsv_tree.specs.Descriptor.{DescriptorParts}
+use Rattle.fsv_tree.specs.File.{file_root}
+use Rattle.hash_tree.specs.Path.{Shown, path}
+use Rattle.hash_tree.specs.Shape.{IsHeight}
+use Rattle.hash_tree.specs.Tree.{data_blocks, fan_out}
+use Rattle.hash_path.specs.Blocks.{Blocks}
+use Rattle.hash_path.specs.Stored.{Stored, held_blocks}
+
+-- a file whose blocks are checked: its descriptor, the name of the device that has its stored tree, the byte at which
+-- the tree begins there, how many levels stand above the data, and the path that the last call took, from the top down
+pub record Attached : Type 0 where
+  pub descriptor : DescriptorParts
+  pub device : List ℕ
+  pub tree_at : ℕ
+  pub levels : ℕ
+  pub path : List (List ℕ)
+
+-- the size of a file's blocks, in bytes
+abbrev pub block_size_of : DescriptorParts → ℕ
+block_size_of descriptor = 2 ^ descriptor.log
+
+-- how many blocks a file has; the last may be a short one
+abbrev pub blocks_of : DescriptorParts → ℕ
+blocks_of descriptor = div_ceil descriptor.size (block_size_of descriptor)
+
+-- the stored tree of a file
+abbrev pub tree_of : Attached → Stored
+tree_of file = record {
+  device = file.device;
+  start = file.tree_at;
+  block_size = block_size_of file.descriptor;
+  blocks = blocks_of file.descriptor;
+  levels = file.levels;
+  root = file.descriptor.root;
+  salt = block_salt file.descriptor.salt;
+}
+
+-- the path to a block that is handed in, over the hash blocks that the device's bytes hold
+abbrev pub held_path : Attached → List ℕ → ℕ → List ℕ → List (List ℕ)
+held_path file bytes i block = held_blocks (tree_of file) bytes i ++ block ∷ []
+
+-- the block is block i of every file that has the descriptor's size and its root, the last filled with zeros, or two
+-- blocks are shown that differ and have one digest
+abbrev pub IsOfFile : Attached → ℕ → List (List ℕ) → List ℕ → Type 0
+IsOfFile file i taken block =
+    let size = block_size_of file.descriptor in
+    let salt = file.descriptor.salt in
+    (bytes : List ℕ) → length bytes ≡ file.descriptor.size → file_root size salt bytes ≡ file.descriptor.root →
+    (block ≡ slice_index_or (data_blocks size bytes) i [])
+    ⊎ Shown (block_salt salt) (path size (block_salt salt) (data_blocks size bytes) i) taken
+
+-- what is true of every file whose blocks are checked: its levels are as many as its descriptor says, and there is space
+-- for one path and one hash block
+pub record IsAttached (file : Attached) (space : Blocks) (block : List ℕ) : Type 0 where
+  pub height : IsHeight (fan_out (block_size_of file.descriptor)) (blocks_of file.descriptor) file.levels
+  pub low : file.levels ≤ 3
+  pub tree_at : file.tree_at ≤ 16777216
+  pub size : space.size ≡ block_size_of file.descriptor
+  pub room : space.room ≡ file.levels + 1
+  pub buffer : length block ≡ block_size_of file.descriptor

@@ -1,0 +1,10 @@
+//! Files under fs-verity: their blocks are checked against the descriptor, over the stored tree of a device.
+#![tactic(auto)]
+
+mod file;
+
+pub use file::FsvFile;
+pub use hash_path::BlockPath;
+
+#[cfg(test)]
+mod tests;
