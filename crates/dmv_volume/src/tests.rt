@@ -4,7 +4,9 @@ ghost use Rattle.hash_tree.specs.Tree.{fan_out};
 ghost use Rattle.std.specs.Prelude.{◌≡◌, IfOk, IsTrue, length};
 
 use super::*;
-use blk_device::{DevError, Devices, ImageDevices, MemoryDevices, NamedBytes, VerityError, has_at_least};
+use blk_device::{
+    DevError, Devices, ImageDevices, MemoryDevices, NamedBytes, VerityError, has_at_least,
+};
 use ipe_words::Bytes;
 use std::alloc::{AllocError, Global};
 use std::test::Fail;
@@ -44,7 +46,10 @@ fn has_room<D: Devices>(devices: &mut D, name: &[u8], need: u64) -> bool
     ensures room { IsTrue result → HasAtLeast (D.contents devices.old) name.now need }
     ensures same { D.contents devices.new ≡ D.contents devices.old }
 {
-    matches!(has_at_least(devices, name, need), Ok(true) | Err(DevError::Missing))
+    matches!(
+        has_at_least(devices, name, need),
+        Ok(true) | Err(DevError::Missing)
+    )
 }
 
 // Reads a block where both devices are large enough, after two calls that ask for their sizes.
