@@ -59,13 +59,6 @@ hash_size size is = record {
   small = size_cases size (λ x. x ≤ 4096) (omega arith) (omega arith) (omega arith) (omega arith) is;
 }
 
--- images have at most 16,777,216 bytes
-pub few_bytes : (bytes size : ℕ) → AreBlocks bytes size → bytes ≤ 16777216
-few_bytes bytes size blocks =
-    let few : bytes ≤ 4096 * size = blocks.few in
-    let small : size ≤ 4096 = (hash_size size blocks.block_size).small in
-    omega arith
-
 -- the blocks of an image are full
 pub image_blocks : (size : ℕ) (image : List ℕ) → AreBlocks (length image) size →
     data_blocks size image ≡ chunks size image

@@ -16,7 +16,6 @@ use Rattle.hash_path.specs.Stored.{HasTree, HoldsTreeOf, IsStored, OfBytes, Stor
 use Rattle.hash_path.proofs.Answering.{Answers, by_held, front_short, front_whole, length-held}
 use Rattle.hash_path.proofs.HeldTrees.{held_right}
 use Rattle.hash_path.proofs.Heights.{three_levels}
-use Rattle.hash_path.proofs.Places.{at_least_less, ends_within}
 use Rattle.dmv_volume.specs.Reading.{OfBoth, held_path, tree_of}
 use Rattle.dmv_volume.specs.Table.{HasLimits, TableParts}
 
@@ -42,12 +41,6 @@ pub has_tree : (told : Option Contents) (table : TableParts) (levels : ℕ) →
 has_tree told table levels has =
     let many = blocks_above (fan_out table.block_size) table.blocks levels in
     subst (λ (n : ℕ). HasAtLeast told table.hash_device n) (add-mul table.hash_start many table.block_size) has
-
--- the data device has block i
-pub data_room : (told : Option Contents) (name : List ℕ) (n i size : ℕ) → i < n → HasAtLeast told name (n * size) →
-    HasAtLeast told name (i * size + size)
-data_room told name n i size inside has =
-    at_least_less told name (n * size) (i * size + size) (ends_within i n size (omega arith)) has
 
 short_of : (first second : Option (List ℕ)) (table : TableParts) (levels i : ℕ) (taken : List (List ℕ)) →
     IfSome second (λ hashes. taken ≡ take (length taken) (held_blocks (tree_of table levels) hashes i)) →

@@ -7,11 +7,11 @@ use Rattle.blk_device.specs.Contents.{Contents}
 use Rattle.blk_device.specs.declared.devices.VerityError.{VerityError}
 use Rattle.blk_device.specs.declared.devices.VerityError.TheVariants.{DeviceFault}
 use Rattle.fsv_tree.specs.Blocks.{is_block_size}
-use Rattle.fsv_tree.proofs.Counts.{hash_size, size_cases}
+use Rattle.fsv_tree.proofs.Counts.{size_cases}
 use Rattle.fsv_tree.proofs.Files.{root_some}
 use Rattle.hash_path.specs.Checked.{IsOfImage, answer_of, failing}
 use Rattle.hash_path.specs.Stored.{HoldsTreeOf, IsStored, OfBytes, Stored, held_blocks}
-use Rattle.hash_path.proofs.Answering.{front_short, front_whole}
+use Rattle.hash_path.proofs.Answering.{front_whole}
 use Rattle.hash_path.proofs.HeldTrees.{held_right}
 use Rattle.hash_path.proofs.Heights.{three_levels}
 use Rattle.hash_path.proofs.Walking.{of_both}
@@ -27,31 +27,6 @@ low size n L is few some height =
     let wide : 32 ≤ fan_out size =
     size_cases size (λ x. 32 ≤ fan_out x) (omega arith) (omega arith) (omega arith) is in
     three_levels 32 (fan_out size) n L wide (omega arith) some height
-
--- the tree of a file that has a block is one that devices store
-pub is_stored : (file : Attached) → IsTrue (is_block_size (block_size_of file.descriptor)) →
-    1 ≤ blocks_of file.descriptor → blocks_of file.descriptor ≤ 16384 →
-    IsHeight (fan_out (block_size_of file.descriptor)) (blocks_of file.descriptor) file.levels → file.levels ≤ 3 →
-    file.tree_at ≤ 16777216 → IsStored (tree_of file)
-is_stored file is some few height levels start = record {
-  size = hash_size (block_size_of file.descriptor) is;
-  some = some;
-  few = omega (arith, few);
-  height = height;
-  low = levels;
-  start = omega (arith, start);
-}
-
--- the hash blocks that were taken are the front of the path
-pub short_path : (told : Option Contents) (tree : Stored) (i : ℕ) (taken : List (List ℕ)) (block : List ℕ) →
-    OfBytes told tree.device (λ bytes. taken ≡ take (length taken) (held_blocks tree bytes i)) →
-    OfBytes told tree.device (λ bytes. taken ≡ take (length taken) (held_blocks tree bytes i ++ block ∷ []))
-short_path told tree i taken block held =
-    of_both told tree.device
-    (λ bytes. taken ≡ take (length taken) (held_blocks tree bytes i))
-    (λ bytes. taken ≡ take (length taken) (held_blocks tree bytes i))
-    (λ bytes. taken ≡ take (length taken) (held_blocks tree bytes i ++ block ∷ []))
-    (λ bytes is _. front_short (held_blocks tree bytes i) taken (block ∷ []) is) held held
 
 -- all of them and the block are the path
 pub whole_path : (told : Option Contents) (tree : Stored) (i : ℕ) (taken : List (List ℕ)) (block : List ℕ) →

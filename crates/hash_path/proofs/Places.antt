@@ -109,17 +109,6 @@ few_before tree i first (suc k) over is inside above place whole =
     let below = in_level (fan_out tree.block_size) tree.blocks i first k (omega (arith, is.size.wide)) inside in
     omega (arith, place, below, few_blocks tree is)
 
--- the end of a block with such a number
-pub end_small : (tree : Stored) (number size : ℕ) → IsStored tree → number < 50331648 → size ≡ tree.block_size →
-    tree.start + number * size + size < 2 ^ 63
-end_small tree number size is few sized =
-    omega (
-      arith,
-      mul-le number size 50331648 4096 (omega arith) (omega (arith, sized, is.size.small)),
-      is.start,
-      is.size.small,
-    )
-
 -- the last block's number at a level, and one, is how many blocks the level has
 pub level_is : (tree : Stored) (level fan over : ℕ) → IsStored tree → fan ≡ fan_out tree.block_size →
     over ≡ (tree.blocks - 1) / fan ^ level → over + 1 ≡ level_blocks (fan_out tree.block_size) tree.blocks level

@@ -89,17 +89,6 @@ pub of_both : (told : Option Contents) (name : List ℕ) (P Q R : List ℕ → T
 of_both None name P Q R each p q = tt
 of_both (Some items) name P Q R each p q = found_both (content name items) P Q R each p q
 
--- at the top
-pub at_top : (tree : Stored) (told : Option Contents) (i : ℕ) (path : List (List ℕ)) → path ≡ [] →
-    AtStep tree told i path tree.levels 0 tree.root
-at_top tree told i path none =
-    subst (λ xs. AtStep tree told i xs tree.levels 0 tree.root) (sym none) (record {
-      count = omega arith;
-      so_far = λ rest long. refl;
-      held = of_all told tree.device _ (λ bytes. refl);
-      place = omega arith;
-    })
-
 -- the blocks that are held from a level down: that level's, and those below it
 held_more : (tree : Stored) (bytes : List ℕ) (i first k : ℕ) →
     held_from tree bytes i first (suc k)
@@ -118,18 +107,6 @@ length-held_from tree bytes i first (suc k) =
 -- the front of a list
 front : (held path rest : List (List ℕ)) → held ≡ path ++ rest → path ≡ take (length path) held
 front held path rest is = sym (ap (λ xs. take (length path) xs) is ∙ take_at path rest (length path) refl)
-
--- what was read is the front of what the device holds
-pub before_read : (tree : Stored) (told : Option Contents) (i : ℕ) (path : List (List ℕ)) (level first : ℕ)
-    (wanted : List ℕ) → AtStep tree told i path level first wanted →
-    OfBytes told tree.device (λ bytes. path ≡ take (length path) (held_blocks tree bytes i))
-before_read tree told i path level first wanted at =
-    of_both told tree.device
-    (λ bytes. held_blocks tree bytes i ≡ path ++ held_from tree bytes i first level)
-    (λ bytes. held_blocks tree bytes i ≡ path ++ held_from tree bytes i first level)
-    (λ bytes. path ≡ take (length path) (held_blocks tree bytes i))
-    (λ bytes is _. front _ path (held_from tree bytes i first level) is)
-    at.held at.held
 
 -- and with the block that was read, too
 longer_read : (tree : Stored) (told : Option Contents) (i : ℕ) (path longer : List (List ℕ)) (k first : ℕ)
