@@ -9,7 +9,6 @@ ghost use Rattle.std.specs.Prelude.{◌≤◌, length, IfSome, IsTrue};
 mod writing;
 
 use ipe_words::{Status, StdSink, StdSource, decimal};
-use std::alloc::Global;
 use std::env;
 use std::process::ExitCode;
 pub use writing::write_hash_blocks;
@@ -36,19 +35,15 @@ fn words_of(rt: &HostRuntime) -> Option<(u32, Vec<u8>)>
         return None;
     };
     let size = decimal(size.as_bytes(), 4096)? as u32;
-    let salt = salt_of(rt.alloc(), salt.as_str())?;
+    let salt = match salt.as_str() {
+        "-" => Vec::new(rt.alloc()),
+        digits => hex::decode(rt.alloc(), digits).ok()?,
+    };
     if matches!(size, 512 | 1024 | 2048 | 4096) && salt.len() <= 256 {
         Some((size, salt))
     } else {
         None
     }
-}
-
-fn salt_of(alloc: Global, word: &str) -> Option<Vec<u8>> {
-    if word == "-" {
-        return Some(Vec::new(alloc));
-    }
-    hex::decode(alloc, word).ok()
 }
 
 #[cfg(test)]
