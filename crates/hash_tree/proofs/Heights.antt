@@ -69,15 +69,6 @@ at_next h n k level above next wide some at more is =
       bound = omega arith;
     }
 
--- the last level
-pub at_last : (h n k level above : ℕ) → 0 < h → 0 < n → AtLevel h n k level above → level ≤ 1 → IsHeight h n k
-at_last h n k level above positive some at one = record {
-  holds_all =
-      let is : level ≡ level_blocks h n k = at.level_is in
-      omega (arith, div_ceil_is n (h ^ k) (power_some h k positive) some);
-  least = at.least;
-}
-
 -- 16,777,216 blocks have few levels
 pub few_levels : (h n k : ℕ) → 2 ≤ h → n ≤ 16777216 → 0 < (n - 1) / h ^ k → k < 24
 few_levels h n k many few some = elim (cases_lt k 24) [

@@ -1,3 +1,4 @@
+pub mod PartLemmas
 pub mod Given
 pub mod Within
 pub mod WordedForms

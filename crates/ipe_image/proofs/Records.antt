@@ -112,10 +112,3 @@ none-here words parts op context at number past h = step h.left h.count h.same
         → first_match_in parts op context ≡ None
     step [] count same = sym same
     step (rule ∷ more) count same = absurd (omega arith)
-
--- behind its head, a record has the words of its properties
-pub record-properties : (words : List ℕ) (at number : ℕ) (rule : RuleParts) (record_words : List ℕ)
-    → IsRecordAt words at number rule → record_words ≡ rule_record number rule
-    → AreProperties (drop 1 record_words) rule.properties
-record-properties words at number rule record_words h same =
-    record { fit = (and_parts _ _ h.fits).1; whole = ap (λ (ws : List ℕ). drop 1 ws) same }

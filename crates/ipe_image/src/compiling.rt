@@ -2,7 +2,7 @@ ghost use Rattle.std.specs.Prelude.{◌≡◌, ◌≤◌, ◌++◌, ◌∷◌, I
 ghost use Rattle.std.specs.List.{filter_map};
 ghost use Rattle.ipe_policy.specs.Policy.{global_defaults, op_defaults};
 ghost use Rattle.ipe_policy.specs.Spelling.{words_of_image};
-ghost use Rattle.ipe_policy.specs.Statement.{global_default_of, op_default_of, operations, rule_of};
+ghost use Rattle.ipe_policy.specs.Statement.{operations, rule_of};
 ghost use Rattle.ipe_image.specs.Compiling.{Refuses};
 ghost use Rattle.ipe_image.specs.Image.{default_word, image_of};
 ghost use Rattle.ipe_image.specs.Parts.{parts_of};
@@ -11,7 +11,9 @@ ghost use Rattle.ipe_image.specs.Reading.{image_in};
 
 use crate::head::action_number;
 use crate::record::append_records;
-use ipe_policy::{Action, Op, Policy, Statement, image_words};
+use ipe_policy::{
+    Action, Op, Policy, Statement, global_default, image_words, op_default, rule_count,
+};
 use std::alloc::{AllocError, Global};
 use std::marker::Model;
 use thiserror::Error;
@@ -87,60 +89,6 @@ fn default_word(default: Option<Action>) -> u64
     }
 }
 
-fn op_default_of(item: &Statement, op: Op) -> Option<Action>
-    ensures { result ≡ op_default_of op item.now }
-{
-    match item {
-        Statement::OpDefault { op: of, action } => (op == *of).then_some(*action),
-        _ => None,
-    }
-}
-
-fn global_default_of(item: &Statement) -> Option<Action>
-    ensures { result ≡ global_default_of item.now }
-{
-    match item {
-        Statement::GlobalDefault { action } => Some(*action),
-        _ => None,
-    }
-}
-
-// The first default of the operation.
-fn op_default(items: &[Statement], op: Op) -> Option<Action>
-    ensures { result ≡ slice_get (op_defaults op items.now) 0 }
-{
-    for item in items {
-        if let Some(action) = op_default_of(item, op) {
-            return Some(action);
-        }
-    }
-    None
-}
-
-// The first global default.
-fn global_default(items: &[Statement]) -> Option<Action>
-    ensures { result ≡ slice_get (global_defaults items.now) 0 }
-{
-    for item in items {
-        if let Some(action) = global_default_of(item) {
-            return Some(action);
-        }
-    }
-    None
-}
-
-fn rule_count(items: &[Statement]) -> u64
-    ensures { result ≡ length (filter_map rule_of items.now) }
-{
-    let mut count = 0;
-    for item in items {
-        if let Statement::Rule { .. } = item {
-            count += 1;
-        }
-    }
-    count
-}
-
 // Puts the default of each operation behind the words, in their order.
 fn append_defaults(image: &mut Vec<u64>, items: &[Statement]) -> Result<(), AllocError>
     ensures { OnOk result (image.new.items ≡ image.old.items
@@ -168,7 +116,7 @@ fn append_head(
     image.push(serial)?;
     image.push(default_word(global_default(items)))?;
     append_defaults(image, items)?;
-    image.push(rule_count(items))?;
+    image.push(rule_count(items) as u64)?;
     image.extend_from_slice(&[0; 14])
 }
 

@@ -1,19 +1,10 @@
 -- Lines with tokens, taken off the front one at a time.
-use Rattle.std.proofs.Common.{◌≡◌, ℕ, ◌+◌, ◌<◌, ◌≤◌, List, [], ◌∷◌, length, map, filter, suc, inl, inr, refl, ap, arith}
+use Rattle.std.proofs.Common.{◌≡◌, ℕ, ◌+◌, ◌≤◌, List, [], ◌∷◌, length, map, filter, suc, inl, inr, refl, ap, arith}
 use Rattle.std.specs.List.{enumerate_from, onto_first}
-use Rattle.std.proofs.lemmas.Bool.{lt-ltb, le-ltb}
 use Rattle.ipe_lex.specs.Lines.{PlacedLine, is_line_feed, lines_of, placed_lines, tokens_of, uncommented}
 use Rattle.ipe_lex.proofs.Cuts.{either}
 use Rattle.ipe_parse.specs.Reading.{SpokenLine, is_spoken, spoken_lines}
 use Rattle.ipe_parse.specs.Walk.{spoken_of}
-
-pub spoken-first : (line : PlacedLine) (tokens : List (List ℕ)) (lines : List PlacedLine) → tokens ≡ tokens_of line.bytes → 0 < length tokens
-    → filter is_spoken (map spoken_of (line ∷ lines)) ≡ record { number = line.number; tokens = tokens } ∷ filter is_spoken (map spoken_of lines)
-spoken-first line tokens lines e some = rw (← e, lt-ltb 0 (length tokens) some)
-
-pub spoken-skip : (line : PlacedLine) (tokens : List (List ℕ)) (lines : List PlacedLine) → tokens ≡ tokens_of line.bytes → length tokens ≤ 0
-    → filter is_spoken (map spoken_of (line ∷ lines)) ≡ filter is_spoken (map spoken_of lines)
-spoken-skip line tokens lines e none = rw (← e, le-ltb 0 (length tokens) none)
 
 -- numbered lines are placed lines
 numbered : (number start : ℕ) (lines : List (List ℕ)) → map spoken_of (placed_lines number start lines) ≡ map {B = SpokenLine} (λ (line : ℕ × List ℕ). record { number = line.0; tokens = tokens_of (uncommented line.1) }) (enumerate_from number lines)

@@ -4,3 +4,5 @@ pub mod Defaults
 pub mod Given
 pub mod Reading
 pub mod Walk
+pub mod Reads
+pub mod Printed

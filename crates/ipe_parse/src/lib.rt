@@ -6,6 +6,7 @@ mod error;
 mod given;
 mod header;
 mod header_line;
+mod law;
 mod line;
 mod line_error;
 mod reading;
@@ -15,4 +16,5 @@ mod token;
 mod walk;
 
 pub use error::{BadKind, BadText, ParseError};
+pub use law::{printed_is_read, reads_or_has_a_fault};
 pub use reading::parse;

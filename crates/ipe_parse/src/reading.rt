@@ -1,6 +1,7 @@
-ghost use Rattle.std.specs.Prelude.{◌≡◌, ◌≤◌, length};
+ghost use Rattle.std.specs.Prelude.{◌≡◌, ◌≤◌, IfErr, IfOk, length};
 ghost use Rattle.ipe_parse.specs.Defaults.{first_missing};
 ghost use Rattle.ipe_parse.specs.Reading.{Gives, IsReading, completed, reading, reading_of_lines};
+ghost use Rattle.ipe_parse.specs.Reads.{ReadsAsOne, Refuses};
 ghost use Rattle.ipe_parse.specs.Walk.{spoken_left};
 ghost use Rattle.ipe_lex.specs.Walks.{lines_left};
 
@@ -49,10 +50,12 @@ fn read_lines(alloc: Global, walk: &mut LineWalk<'_>) -> Result<Policy, ParseErr
     finished(header, draft)
 }
 
-/// The policy that a text reads as, or else the text's first fault.
+/// The policy that a text reads as, and the only one, or else the text's first fault, where it reads as none.
 pub fn parse(alloc: Global, text: &[u8]) -> Result<Policy, ParseError>
     requires { length text.now ≤ 1048576 }
-    ensures { IsReading result (reading text.now) }
+    ensures reading { IsReading result (reading text.now) }
+    ensures policy { IfOk result (ReadsAsOne text.now) }
+    ensures refused { IfErr result (Refuses text.now) }
 {
     read_lines(alloc, &mut lines(text))
 }

@@ -1,9 +1,9 @@
 ghost use Rattle.std.specs.Prelude.{◌≡◌, ◌≤◌, ◌&&◌, Some, None, false, length, slice_get};
-ghost use Rattle.std.specs.List.{list_all};
+ghost use Rattle.std.specs.List.{filter_map, list_all};
 ghost use Rattle.std.specs.Option.{option_map};
 ghost use Rattle.ipe_policy.specs.Evaluation.{decision, first_match, has_digest, holds_in, is_signed};
 ghost use Rattle.ipe_policy.specs.Policy.{global_defaults, op_defaults};
-ghost use Rattle.ipe_policy.specs.Statement.{global_default_of, op_default_of, same_op};
+ghost use Rattle.ipe_policy.specs.Statement.{global_default_of, op_default_of, rule_of, same_op};
 
 use crate::{Action, Digest, Op, Policy, Properties, Property, Statement};
 
@@ -141,8 +141,8 @@ fn global_default_of(item: &Statement) -> Option<Action>
     }
 }
 
-// The first default of the operation.
-fn op_default(items: &[Statement], op: Op) -> Option<Action>
+/// The first default of the operation.
+pub fn op_default(items: &[Statement], op: Op) -> Option<Action>
     ensures { result ≡ slice_get (op_defaults op items.now) 0 }
 {
     for item in items {
@@ -153,8 +153,8 @@ fn op_default(items: &[Statement], op: Op) -> Option<Action>
     None
 }
 
-// The first global default.
-fn global_default(items: &[Statement]) -> Option<Action>
+/// The first global default.
+pub fn global_default(items: &[Statement]) -> Option<Action>
     ensures { result ≡ slice_get (global_defaults items.now) 0 }
 {
     for item in items {
@@ -163,6 +163,19 @@ fn global_default(items: &[Statement]) -> Option<Action>
         }
     }
     None
+}
+
+/// The number of rules.
+pub fn rule_count(items: &[Statement]) -> usize
+    ensures { result ≡ length (filter_map rule_of items.now) }
+{
+    let mut count = 0;
+    for item in items {
+        if let Statement::Rule { .. } = item {
+            count += 1;
+        }
+    }
+    count
 }
 
 /// What a policy decides of a file for an operation: the first rule of the operation whose properties all hold, else the

@@ -14,7 +14,9 @@ mod statement;
 mod version;
 mod words;
 
-pub use evaluation::{Context, Found, Signed, Which, decide, holds};
+pub use evaluation::{
+    Context, Found, Signed, Which, decide, global_default, holds, op_default, rule_count,
+};
 pub use image::image_words;
 pub use op::{Action, Op};
 pub use policy::{Policy, Statements};

@@ -8,7 +8,6 @@
 mod commands;
 mod hooks;
 mod marks;
-mod parts;
 mod phases;
 mod records;
 mod running;

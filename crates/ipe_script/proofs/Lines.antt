@@ -70,6 +70,3 @@ asked-taken asked progress now number bytes line rest taken e cut was h =
 pub asked-refused : (asked : Result Script ℕ) (progress now : Progress) (number : ℕ) (bytes line rest : List ℕ) (taken : Bool) → asked ≡ requests_from progress number (slice_split is_line_feed bytes) → CutsLine bytes line rest → taken ≡ false → Takes (next progress (number + 1) line) now taken → asked ≡ Err (number + 1)
 asked-refused asked progress now number bytes line rest taken e cut was h =
     e ∙ at_line progress number bytes line rest cut ∙ ap (λ (found : Option Progress). option_map_or (λ more. requests_from more (number + 1) (slice_split is_line_feed rest)) found (Err (number + 1))) (refused_is (next progress (number + 1) line) now taken was h)
-
-pub asked-last : (asked : Result Script ℕ) (progress : Progress) (number : ℕ) (bytes : List ℕ) → asked ≡ requests_from progress number (slice_split is_line_feed bytes) → slice_split is_line_feed bytes ≡ bytes ∷ [] → (is_ended progress.stage && (length bytes == 0)) ≡ false → asked ≡ Err (number + 1)
-asked-last asked progress number bytes e last open_end = e ∙ ap (λ (pieces : List (List ℕ)). requests_from progress number pieces) last ∙ ap (λ (ended : Bool). cond ended (Ok progress.script) (Err (number + 1))) open_end

@@ -1,14 +1,12 @@
 ghost use Rattle.std.specs.Prelude.{◌≡◌, ◌≢◌, ◌≤◌, ◌⊎◌, ◌++◌, [], length, codes, IfOk, IfSome, Some};
 ghost use Rattle.std.specs.Fmt.{decimal};
 ghost use Rattle.ipe_transcript.specs.Lines.{line_text};
-ghost use Rattle.std.specs.List.{filter_map};
 ghost use Rattle.ipe_words.specs.Count.{Rose};
-ghost use Rattle.ipe_policy.specs.Statement.{rule_of};
 ghost use Rattle.ipegate.specs.Program.{Writes, WritesPrefix, too_long_text};
 ghost use Rattle.ipegate.specs.Lint.{IsLinted, IsLintRefusal, IsLintAnswer, lint_text, fault_text, kind_name};
 
 use ipe_parse::{BadKind, BadText, ParseError, parse};
-use ipe_policy::{Policy, Statement, image_words};
+use ipe_policy::{Policy, image_words, rule_count};
 use ipe_words::{ReadAllError, Sink, Source, Status, read_all, write_all};
 use std::alloc::{AllocError, Global};
 
@@ -85,23 +83,11 @@ fn answer_to(alloc: Global, input: &[u8]) -> Result<(Vec<u8>, Status), AllocErro
     }
 }
 
-fn rules_of(policy: &Policy) -> usize
-    ensures { result ≡ length (filter_map rule_of policy.now.items) }
-{
-    let mut rules = 0;
-    for item in policy.items.as_slice() {
-        if let Statement::Rule { .. } = item {
-            rules += 1;
-        }
-    }
-    rules
-}
-
 fn ok_line(alloc: Global, policy: &Policy) -> Result<Vec<u8>, AllocError>
     ensures { IfOk result (λ text. text.items ≡ lint_text policy.now) }
 {
     let version = policy.version;
-    let rules = rules_of(policy);
+    let rules = rule_count(policy.items.as_slice());
     let words = image_words(policy);
     let rest = format!(in alloc; " {version} rules={rules} words={words}\n")?;
     let mut text = b"ok ".to_vec(alloc)?;

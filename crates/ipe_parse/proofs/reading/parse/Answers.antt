@@ -1,5 +1,6 @@
 use Rattle.std.proofs.Common.{◌≡◌, ◌≤◌, map, filter, length, ap, ◌∙◌, arith}
 use Rattle.ipe_lex.specs.Lines.{lines_of, placed_lines}
+use Rattle.ipe_parse.proofs.Readings.{answered-fault, answered-policy}
 use Rattle.ipe_parse.proofs.SpokenLemmas.{placed_lines-few, spoken_lines-placed}
 use Rattle.ipe_parse.specs.Reading.{Gives, is_spoken, reading, reading_of_lines}
 use Rattle.ipe_parse.specs.Walk.{spoken_of}
@@ -8,8 +9,14 @@ use Rattle.ipe_parse.proofs.reading.parse.Goals as goal
 pub read_lines-requires : goal.read_lines-requires
 read_lines-requires c = rw c.lines.ensures (omega (arith, placed_lines-few c.args.text.now, c.requires))
 
-pub returns : goal.returns
+pub returns-clause-reading : goal.returns-clause-reading
 unfolding reading
-returns c =
+returns-clause-reading c =
     let same = ap (λ left. filter is_spoken (map spoken_of left)) c.lines.ensures ∙ spoken_lines-placed c.args.text.now in
     rw same at c.read_lines.ensures
+
+pub returns-clause-policy : goal.returns-clause-policy
+returns-clause-policy c = answered-policy c.args.text.now c.read_lines.result c.requires (returns-clause-reading c)
+
+pub returns-clause-refused : goal.returns-clause-refused
+returns-clause-refused c = answered-fault c.args.text.now c.read_lines.result (returns-clause-reading c)

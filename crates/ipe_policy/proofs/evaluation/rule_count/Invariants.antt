@@ -1,7 +1,7 @@
 use Rattle.std.proofs.Common.{◌≡◌, ◌+◌, ◌≤◌, drop, length}
 use Rattle.std.specs.List.{filter_map}
 use Rattle.ipe_policy.specs.Statement.{rule_of}
-use Rattle.ipe_image.proofs.compiling.rule_count.Given as goal
+use Rattle.ipe_policy.proofs.evaluation.rule_count.Given as goal
 
 -- the rules so far and those of the rest are all
 abbrev pub invariant-loop-item : goal.invariant-loop-item

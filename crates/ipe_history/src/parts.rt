@@ -53,8 +53,12 @@ fn split_at_evaluated(hooks: &[PhaseLine]) -> (&[PhaseLine], &[PhaseLine])
     hooks.split_at(first_evaluated(hooks).unwrap_or(hooks.len()))
 }
 
-// The three parts of a phase in the order in which they are printed.
-pub(crate) fn printed_parts(lines: &[PhaseLine]) -> (&[PhaseLine], &[PhaseLine], &[PhaseLine])
+/// The lines of a phase as they are printed, in three parts: the hooks before the first that is evaluated, the commands, and the
+/// other hooks. They are all of its lines.
+pub fn printed_parts(lines: &[PhaseLine]) -> (&[PhaseLine], &[PhaseLine], &[PhaseLine])
+    ensures early { result.0.now ≡ before_first is_evaluated (from_first is_hook lines.now) }
+    ensures commands { result.1.now ≡ before_first is_hook lines.now }
+    ensures late { result.2.now ≡ from_first is_evaluated (from_first is_hook lines.now) }
     ensures order { result.0.now ++ result.1.now ++ result.2.now ≡ printed lines.now }
     ensures all { length result.0.now + length result.1.now + length result.2.now ≡ length lines.now }
 {

@@ -9,7 +9,7 @@ use Rattle.ipe_policy.specs.declared.op.Action.TheVariants.{Allow, Deny}
 use Rattle.ipe_policy.specs.Words.{is_text}
 use Rattle.ipe_policy.specs.Spelling.{op_word, action_token}
 use Rattle.ipe_parse.specs.Tokens.{action_named, begins, op_named}
-use Rattle.ipe_language.proofs.Steps.{chosen}
+use Rattle.ipe_parse.proofs.Steps.{chosen}
 
 -- bytes that are a text by test are the text
 pub text-is : (text bytes : List ℕ) → is_text text bytes ≡ true → bytes ≡ text

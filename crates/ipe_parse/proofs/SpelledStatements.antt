@@ -17,10 +17,10 @@ use Rattle.ipe_parse.specs.declared.header.Header.{Header}
 use Rattle.ipe_parse.specs.declared.error.BadKind.{BadKind}
 use Rattle.ipe_parse.specs.declared.error.BadKind.TheVariants.{NoHeader, BadName, BadVersion, BadOp, BadAction, PropertyInDefault, TooManyProperties}
 use Rattle.ipe_parse.specs.Tokens.{◌>>=◌, action_named, begins, default_of, header_of, header_parts, last_action, lone_action, op_named, op_of, properties_of, rule_of_line, statement_of}
-use Rattle.ipe_language.specs.Reads.{SpellsProperty, SpellsStatement}
-use Rattle.ipe_language.proofs.Steps.{ok_or-parts, passed, same-ok, split, then-ok, then-parts, held}
-use Rattle.ipe_language.proofs.Spells.{action_named-is, action_named-token, begins-is, op_named-is, op_named-word, text-is}
-use Rattle.ipe_language.proofs.Properties.{as-many, properties-read, properties-spelled}
+use Rattle.ipe_parse.specs.Reads.{SpellsProperty, SpellsStatement}
+use Rattle.ipe_parse.proofs.Steps.{ok_or-parts, passed, same-ok, split, then-ok, then-parts, held}
+use Rattle.ipe_parse.proofs.Spells.{action_named-is, action_named-token, begins-is, op_named-is, op_named-word, text-is}
+use Rattle.ipe_parse.proofs.SpelledProperties.{as-many, properties-read, properties-spelled}
 
 -- ---- the last token
 

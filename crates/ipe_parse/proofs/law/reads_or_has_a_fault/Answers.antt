@@ -1,5 +1,5 @@
-use Rattle.ipe_language.proofs.Readings.{is-read, is-spelled, one-or-fault}
-use Rattle.ipe_language.proofs.reading.reads_or_has_a_fault.Goals as goal
+use Rattle.ipe_parse.proofs.Readings.{is-read, is-spelled, one-or-fault}
+use Rattle.ipe_parse.proofs.law.reads_or_has_a_fault.Goals as goal
 
 pub returns-clause-reads : goal.returns-clause-reads
 returns-clause-reads c = is-read

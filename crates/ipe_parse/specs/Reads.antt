@@ -12,6 +12,9 @@ use Rattle.ipe_policy.specs.Policy.{PolicyParts, IsPolicy}
 use Rattle.ipe_policy.specs.Spelling.{op_token, action_token, truth_word}
 use Rattle.ipe_parse.specs.Tokens.{hex_bytes}
 use Rattle.ipe_parse.specs.declared.error.BadText.{BadText}
+use Rattle.ipe_parse.specs.declared.error.BadText.TheVariants.{Bad, NoDefault}
+use Rattle.ipe_parse.specs.declared.error.ParseError.{ParseError}
+use Rattle.ipe_parse.specs.declared.error.ParseError.TheVariants as error
 use Rattle.ipe_parse.specs.Reading.{SpokenLine, reading, spoken_lines}
 
 -- the word is ALG:HEX of this digest, its digits of either case
@@ -57,3 +60,9 @@ pub record ReadsAsOne (text : List ℕ) (policy : PolicyParts) : Type 0 where
 pub record HasFault (text : List ℕ) (fault : BadText) : Type 0 where
   pub first : reading text ≡ Err fault
   pub unread : (policy : PolicyParts) → Reads text policy → ⊥
+
+-- a refusal is by the text's first fault, but for want of memory
+abbrev pub Refuses : List ℕ → ParseError → Type 0
+Refuses text (error.Bad line kind) = HasFault text (Bad line kind)
+Refuses text (error.NoDefault missing) = HasFault text (NoDefault missing)
+Refuses text error.NoMemory = Unit {0}

@@ -1,5 +1,5 @@
 -- Texts that read as a policy are read as it, and no others are.
-use Rattle.std.proofs.Common.{◌≡◌, ℕ, suc, ◌≤◌, ◌⊎◌, inl, inr, Bool, true, false, cond, List, [], ◌∷◌, ◌++◌, length, map, filter, Option, Some, None, Result, Ok, Err, refl, sym, ◌∙◌, ap, arith, subst, append_assoc, append-nil, codes}
+use Rattle.std.proofs.Common.{◌≡◌, ℕ, suc, ◌≤◌, ◌⊎◌, inl, inr, Bool, true, false, cond, List, [], ◌∷◌, ◌++◌, length, map, filter, Option, Some, None, Result, Ok, Err, IfOk, IfErr, refl, sym, ◌∙◌, ap, arith, subst, append_assoc, append-nil, codes}
 use Rattle.std.specs.List.{AllZip}
 use Rattle.ipe_lex.proofs.Cuts.{either}
 use Rattle.ipe_lex.specs.Lines.{lines_of, placed_lines}
@@ -11,16 +11,19 @@ use Rattle.ipe_policy.specs.Policy.{PolicyParts, IsPolicy}
 use Rattle.ipe_parse.specs.declared.error.BadKind.{BadKind}
 use Rattle.ipe_parse.specs.declared.error.BadKind.TheVariants.{TwiceDefault}
 use Rattle.ipe_parse.specs.declared.error.BadText.{BadText}
+use Rattle.ipe_parse.specs.declared.error.BadText.TheVariants.{Bad, NoDefault}
+use Rattle.ipe_parse.specs.declared.error.ParseError.{ParseError}
+use Rattle.ipe_parse.specs.declared.error.ParseError.TheVariants as error
 use Rattle.ipe_parse.specs.declared.header.Header.{Header}
 use Rattle.ipe_parse.specs.Defaults.{IsOnce, first_missing, repeats_default}
 use Rattle.ipe_parse.specs.Tokens.{header_of, statement_of}
-use Rattle.ipe_parse.specs.Reading.{SpokenLine, ◌>>=◌, at_line, completed, is_spoken, next_statement, not_twice, reading, reading_of_lines, spoken_lines, statements_from}
+use Rattle.ipe_parse.specs.Reading.{IsReading, SpokenLine, ◌>>=◌, at_line, completed, is_spoken, next_statement, not_twice, reading, reading_of_lines, spoken_lines, statements_from}
 use Rattle.ipe_parse.specs.Walk.{spoken_of}
 use Rattle.ipe_parse.proofs.DraftLemmas.{IsOnce-push, each-has-one}
 use Rattle.ipe_parse.proofs.SpokenLemmas.{placed_lines-few, spoken_lines-placed}
-use Rattle.ipe_language.specs.Reads.{HasFault, Reads, ReadsAsOne, SpellsStatement}
-use Rattle.ipe_language.proofs.Defaults.{missing-none, repeats-none}
-use Rattle.ipe_language.proofs.Statements.{SpellsHeader, header-read, header-spelled, statement-read, statement-spelled}
+use Rattle.ipe_parse.specs.Reads.{HasFault, Reads, ReadsAsOne, Refuses, SpellsStatement}
+use Rattle.ipe_parse.proofs.Defaults.{missing-none, repeats-none}
+use Rattle.ipe_parse.proofs.SpelledStatements.{SpellsHeader, header-read, header-spelled, statement-read, statement-spelled}
 
 -- the second step is taken where the first gives a value
 then-ok : {A B : Type 0} (r : Result A BadText) (x : A) (next : A → Result B BadText) → r ≡ Ok x → (r >>= next) ≡ next x
@@ -238,24 +241,38 @@ one-value read policy other e h = cc
 not-both : (read : Result PolicyParts BadText) (policy : PolicyParts) (fault : BadText) → read ≡ Ok policy → read ≡ Err fault → ⊥
 not-both read policy fault e h = cc
 
+-- a text that is read as a policy reads as it and as no other
+pub reads-as-one : (text : List ℕ) (policy : PolicyParts) → length text ≤ 1048576 → reading text ≡ Ok policy → ReadsAsOne text policy
+reads-as-one text policy small e = record {
+  reads = is-spelled text policy small e;
+  alone = λ other h. one-value (reading text) policy other e (is-read text other h);
+  faultless = λ fault h. not-both (reading text) policy fault e h;
+}
+
+-- a text of which a fault is read reads as no policy
+pub has-fault : (text : List ℕ) (fault : BadText) → reading text ≡ Err fault → HasFault text fault
+has-fault text fault e = record {
+  first = e;
+  unread = λ policy h. not-both (reading text) policy fault (is-read text policy h) e;
+}
+
 -- what is read of a text tells which of the two it is
 sorted : (text : List ℕ) (read : Result PolicyParts BadText) → length text ≤ 1048576 → reading text ≡ read → ((policy : PolicyParts) × ReadsAsOne text policy) ⊎ ((fault : BadText) × HasFault text fault)
-sorted text (Ok policy) small e = inl (
-  policy,
-  record {
-    reads = is-spelled text policy small e;
-    alone = λ other h. one-value (reading text) policy other e (is-read text other h);
-    faultless = λ fault h. not-both (reading text) policy fault e h;
-  },
-)
-sorted text (Err fault) small e = inr (
-  fault,
-  record {
-    first = e;
-    unread = λ policy h. not-both (reading text) policy fault (is-read text policy h) e;
-  },
-)
+sorted text (Ok policy) small e = inl (policy, reads-as-one text policy small e)
+sorted text (Err fault) small e = inr (fault, has-fault text fault e)
 
 -- a text reads as one policy, or has a first fault, and never both
 pub one-or-fault : (text : List ℕ) → length text ≤ 1048576 → ((policy : PolicyParts) × ReadsAsOne text policy) ⊎ ((fault : BadText) × HasFault text fault)
 one-or-fault text small = sorted text (reading text) small refl
+
+-- an answer that is the reading tells the one policy
+pub answered-policy : (text : List ℕ) (result : Result PolicyParts ParseError) → length text ≤ 1048576 → IsReading result (reading text) → IfOk result (ReadsAsOne text)
+answered-policy text (Ok policy) small e = reads-as-one text policy small e
+answered-policy text (Err error) small e = tt
+
+-- an answer that is the reading is refused by the first fault
+pub answered-fault : (text : List ℕ) (result : Result PolicyParts ParseError) → IsReading result (reading text) → IfErr result (Refuses text)
+answered-fault text (Ok policy) e = tt
+answered-fault text (Err (error.Bad line kind)) e = has-fault text (Bad line kind) e
+answered-fault text (Err (error.NoDefault missing)) e = has-fault text (NoDefault missing) e
+answered-fault text (Err error.NoMemory) e = tt

@@ -26,10 +26,10 @@ use Rattle.ipe_policy.specs.Spelling.{action_token, digest_word, header_text, jo
 use Rattle.ipe_parse.specs.Tokens.{header_of}
 use Rattle.ipe_parse.specs.Defaults.{first_missing, has_op_default, repeats_default, IsOnce}
 use Rattle.ipe_parse.specs.Reading.{SpokenLine, is_spoken, reading, reading_of_lines, spoken_lines, statements_from}
-use Rattle.ipe_language.specs.Printed.{IsPrintable, IsPrintableDigest, IsPrintableProperty, IsPrintableStatement, IsPrintableVersion}
-use Rattle.ipe_language.proofs.Bytes.{IsWord, all-append, all-weaker, before-none, inner-joined, is_inner, is_plain, lines-at, tokens_of-joined}
-use Rattle.ipe_language.proofs.Values.{alg-bytes, bytes-by_index, decimal-digits, version_of-text}
-use Rattle.ipe_language.proofs.Printings.{statement_of-tokens}
+use Rattle.ipe_parse.specs.Printed.{IsPrintable, IsPrintableDigest, IsPrintableProperty, IsPrintableStatement, IsPrintableVersion}
+use Rattle.ipe_parse.proofs.Bytes.{IsWord, all-append, all-weaker, before-none, inner-joined, is_inner, is_plain, lines-at, tokens_of-joined}
+use Rattle.ipe_parse.proofs.Values.{alg-bytes, bytes-by_index, decimal-digits, version_of-text}
+use Rattle.ipe_parse.proofs.Printings.{statement_of-tokens}
 
 -- ---- each token is a word
 

@@ -6,8 +6,8 @@ use Rattle.ipe_lex.proofs.Cuts.{after-hit, after-miss, before-hit, before-miss, 
 use Rattle.ipe_policy.specs.declared.statement.Digest.{Digest}
 use Rattle.ipe_policy.specs.Words.{is_alg_byte, is_alg_name}
 use Rattle.ipe_parse.specs.Tokens.{digest_of, hex_bytes, is_colon}
-use Rattle.ipe_language.specs.Reads.{SpellsDigest}
-use Rattle.ipe_language.proofs.Steps.{map-parts}
+use Rattle.ipe_parse.specs.Reads.{SpellsDigest}
+use Rattle.ipe_parse.proofs.Steps.{map-parts}
 
 -- a byte of an algorithm's name is no colon
 no-colon : (byte : ℕ) → is_alg_byte byte ≡ true → is_colon byte ≡ false

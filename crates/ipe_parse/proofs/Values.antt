@@ -21,8 +21,8 @@ use Rattle.ipe_policy.specs.Words.{is_alg_byte, is_alg_name, is_digit}
 use Rattle.ipe_policy.specs.Version.{digits_onto, is_dot, part_of, version_of}
 use Rattle.ipe_policy.specs.Spelling.{action_token, digest_word, op_token, op_word, property_token, version_text}
 use Rattle.ipe_parse.specs.Tokens.{action_named, digest_of, hex_bytes, is_colon, op_named, op_of, property_of}
-use Rattle.ipe_language.specs.Printed.{IsPrintableDigest, IsPrintableProperty, IsPrintableVersion}
-use Rattle.ipe_language.proofs.Bytes.{after-at, all-weaker, before-at}
+use Rattle.ipe_parse.specs.Printed.{IsPrintableDigest, IsPrintableProperty, IsPrintableVersion}
+use Rattle.ipe_parse.proofs.Bytes.{after-at, all-weaker, before-at}
 
 -- ---- versions
 

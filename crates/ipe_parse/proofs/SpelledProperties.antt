@@ -8,10 +8,10 @@ use Rattle.ipe_policy.specs.Words.{is_text}
 use Rattle.ipe_parse.specs.declared.error.BadKind.{BadKind}
 use Rattle.ipe_parse.specs.declared.error.BadKind.TheVariants.{BadProperty, BadDigest}
 use Rattle.ipe_parse.specs.Tokens.{◌>>=◌, begins, digest_of, digest_property_of, or_else, property_of, properties_of, truth_property_of}
-use Rattle.ipe_language.specs.Reads.{SpellsProperty}
-use Rattle.ipe_language.proofs.Steps.{chosen, map-parts, ok_or-parts, passed, same-ok, split, then-ok, then-parts}
-use Rattle.ipe_language.proofs.Spells.{begins-is, text-is}
-use Rattle.ipe_language.proofs.Digests.{digest-read, digest-spelled}
+use Rattle.ipe_parse.specs.Reads.{SpellsProperty}
+use Rattle.ipe_parse.proofs.Steps.{chosen, map-parts, ok_or-parts, passed, same-ok, split, then-ok, then-parts}
+use Rattle.ipe_parse.proofs.Spells.{begins-is, text-is}
+use Rattle.ipe_parse.proofs.Digests.{digest-read, digest-spelled}
 
 -- a token that spells a property is read as it
 pub property-read : (token : List ℕ) (property : Property) → SpellsProperty token property → property_of token ≡ Ok property

@@ -1,0 +1,23 @@
+ghost use Rattle.std.specs.Prelude.{◌≡◌, ◌≤◌, ◌⊎◌, ℕ, List, Ok, length};
+ghost use Rattle.ipe_policy.specs.Policy.{PolicyParts};
+ghost use Rattle.ipe_policy.specs.Spelling.{policy_text};
+ghost use Rattle.ipe_parse.specs.declared.error.BadText.{BadText};
+ghost use Rattle.ipe_parse.specs.Printed.{IsPrintable};
+ghost use Rattle.ipe_parse.specs.Reading.{reading};
+ghost use Rattle.ipe_parse.specs.Reads.{HasFault, Reads, ReadsAsOne};
+
+/// A text of at most 1,048,576 bytes either reads as exactly one policy or has a first fault, never both. What a text
+/// reads as, of whatever length, is what the definition `reading` gives by examining the lines from the top; up to that
+/// length, whatever `reading` gives it reads as.
+pub fn reads_or_has_a_fault()
+    ensures reads { (text : List ℕ) (policy : PolicyParts) → Reads text policy → reading text ≡ Ok policy }
+    ensures read { (text : List ℕ) (policy : PolicyParts) → length text ≤ 1048576 → reading text ≡ Ok policy →
+        Reads text policy }
+    ensures one_or_fault { (text : List ℕ) → length text ≤ 1048576 →
+        ((policy : PolicyParts) × ReadsAsOne text policy) ⊎ ((fault : BadText) × HasFault text fault) }
+{}
+
+/// What is printed is read as itself.
+pub fn printed_is_read()
+    ensures { (policy : PolicyParts) → IsPrintable policy → reading (policy_text policy) ≡ Ok policy }
+{}
