@@ -53,8 +53,8 @@ IsOfFile file i taken block =
     (block ≡ slice_index_or (data_blocks size bytes) i [])
     ⊎ Shown (block_salt salt) (path size (block_salt salt) (data_blocks size bytes) i) taken
 
--- what is true of every file whose blocks are checked: its levels are as many as its descriptor says, and there is space
--- for one path and one hash block
+-- what is true of every file whose blocks are checked: its levels are as many as its descriptor says, and there is
+-- space for one path and one hash block
 pub record IsAttached (file : Attached) (space : Blocks) (block : List ℕ) : Type 0 where
   pub height : IsHeight (fan_out (block_size_of file.descriptor)) (blocks_of file.descriptor) file.levels
   pub low : file.levels ≤ 3

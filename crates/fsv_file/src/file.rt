@@ -14,8 +14,8 @@ use hash_tree::layout;
 use std::alloc::{AllocError, Global};
 use std::marker::Model;
 
-/// A file under fs-verity: its blocks are checked as they are handed in, each against the hash blocks over it, which are
-/// read and checked in the same call.
+/// A file under fs-verity: its blocks are checked as they are handed in, each against the hash blocks over it, which
+/// are read and checked in the same call.
 #[derive(Debug, Drop)]
 pub struct FsvFile {
     descriptor: Descriptor,
@@ -49,8 +49,8 @@ impl Model for FsvFile {
 }
 
 impl FsvFile {
-    /// The file of a descriptor, whose stored tree begins at byte `tree_at` of a device, at most 16,777,216. It has room
-    /// for one path, and asks no device.
+    /// The file of a descriptor, whose stored tree begins at byte `tree_at` of a device, at most 16,777,216. It has
+    /// room for one path, and asks no device.
     pub fn attach(
         alloc: Global,
         descriptor: &Descriptor,

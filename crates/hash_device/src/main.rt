@@ -1,6 +1,6 @@
-//! `hash_device` writes the hash blocks of a data image for dm-verity, as they are stored on its hash device: the bytes that
-//! `veritysetup format --no-superblock` writes there. Its words are the size of a block and the salt, and the image is its
-//! input.
+//! `hash_device` writes the hash blocks of a data image for dm-verity, as they are stored on its hash device: the bytes
+//! that `veritysetup format --no-superblock` writes there. Its words are the size of a block and the salt, and the
+//! image is its input.
 #![tactic(auto)]
 
 ghost use Rattle.dmv_tree.specs.Blocks.{is_block_size};

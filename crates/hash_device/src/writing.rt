@@ -41,7 +41,8 @@ pub fn write_hash_blocks<S: Source, K: Sink>(
     ensures read_fault { result ≡ Status.ReadFault → Rose (S.faults source.old) (S.faults source.new) }
     ensures write_fault { result ≡ Status.WriteFault → Rose (K.faults sink.old) (K.faults sink.new) }
     ensures write_prefix { result ≡ Status.WriteFault → IfSome (S.remaining source.old) (λ image.
-        AppendsPrefix (K.written sink.old) (K.written sink.new) (stored block_size salt.now (chunks block_size image))) }
+        AppendsPrefix (K.written sink.old) (K.written sink.new)
+        (stored block_size salt.now (chunks block_size image))) }
 
     // Without an answer nothing is written.
     ensures unwritten { (result ≡ Status.Refused) ⊎ (result ≡ Status.ReadFault) ⊎ (result ≡ Status.NoMemory) →

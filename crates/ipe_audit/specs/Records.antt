@@ -16,7 +16,8 @@ use Rattle.ipe_audit.specs.declared.records.Brief.{Brief}
 
 -- a policy's name, version and digest, each behind these bytes
 abbrev pub told : List ℕ → List ℕ → List ℕ → Brief → List ℕ
-told name version digest policy = name ++ policy.name ++ version ++ version_text policy.version ++ digest ++ encode_lower policy.digest
+told name version digest policy =
+    name ++ policy.name ++ version ++ version_text policy.version ++ digest ++ encode_lower policy.digest
 
 -- the record of a load or an update
 abbrev pub load_text : Brief → List ℕ
@@ -32,16 +33,21 @@ seen (Some policy) = Some policy.now
 -- the policy that was active, or question marks where none was
 abbrev pub old_text : Option Brief → List ℕ
 old_text None = codes "old_active_pol_name=? old_active_pol_version=? old_policy_digest=?"
-old_text (Some policy) = told (codes "old_active_pol_name=\"") (codes "\" old_active_pol_version=") (codes " old_policy_digest=sha256:") policy
+old_text (Some policy) =
+    told (codes "old_active_pol_name=\"") (codes "\" old_active_pol_version=")
+    (codes " old_policy_digest=sha256:") policy
 
 -- the policy that is active now
 abbrev pub new_text : Brief → List ℕ
-new_text policy = told (codes "new_active_pol_name=\"") (codes "\" new_active_pol_version=") (codes " new_policy_digest=sha256:") policy
+new_text policy =
+    told (codes "new_active_pol_name=\"") (codes "\" new_active_pol_version=")
+    (codes " new_policy_digest=sha256:") policy
 
 -- the record of a change of the active policy
 abbrev pub activation_text : Option Brief → Brief → List ℕ
 activation_text old new =
-    codes "type=1421 " ++ old_text old ++ codes " " ++ new_text new ++ codes " auid=4294967295 ses=4294967295 lsm=ipe res=1"
+    codes "type=1421 " ++ old_text old ++ codes " " ++ new_text new
+    ++ codes " auid=4294967295 ses=4294967295 lsm=ipe res=1"
 
 -- the record of a change of the switch enforce to this value
 abbrev pub enforce_text : Bool → List ℕ
@@ -62,13 +68,16 @@ abbrev pub object_text : Object → List ℕ
 object_text NoFile = codes "path=? dev=? ino=?"
 object_text (File path dev ino) = codes "path=\"" ++ path ++ codes "\" dev=\"" ++ dev ++ codes "\" ino=" ++ decimal ino
 
--- the record of an access: the operation, the hook, the switch enforce at the claim, the task, the file, and the statement that decided as it is spelled
+-- the record of an access: the operation, the hook, the switch enforce at the claim, the task, the file, and the
+-- statement that decided as it is spelled
 abbrev pub access_text : Op → Hook → Bool → Subject → Object → List ℕ → List ℕ
 access_text op hook enforce subject object rule =
-    codes "type=1420 ipe_op=" ++ op_word op ++ codes " ipe_hook=" ++ hook_word hook ++ codes " enforcing=" ++ bit_text enforce
+    codes "type=1420 ipe_op=" ++ op_word op ++ codes " ipe_hook=" ++ hook_word hook ++ codes " enforcing="
+    ++ bit_text enforce
     ++ codes " pid=" ++ decimal subject.pid ++ codes " comm=\"" ++ subject.comm ++ codes "\" " ++ object_text object
     ++ codes " rule=\"" ++ rule ++ codes "\""
 
 -- the record of an access that a statement decided, if there is one
 abbrev pub decided_text : Op → Hook → Bool → Subject → Object → Option Statement → Option (List ℕ)
-decided_text op hook enforce subject object statement = option_map (access_text op hook enforce subject object) (option_map statement_text statement)
+decided_text op hook enforce subject object statement =
+    option_map (access_text op hook enforce subject object) (option_map statement_text statement)

@@ -43,7 +43,8 @@ fn append_object(alloc: Global, line: &mut Vec<u8>, object: &Object) -> Result<(
 
 // The operation and the hook, with which the line begins.
 fn asked(alloc: Global, op: Op, hook: Hook) -> Result<Vec<u8>, AllocError>
-    ensures { IfOk result (λ line. line.items ≡ codes "type=1420 ipe_op=" ++ op_word op ++ codes " ipe_hook=" ++ hook_word hook) }
+    ensures { IfOk result (λ line. line.items ≡ codes "type=1420 ipe_op=" ++ op_word op ++ codes " ipe_hook="
+        ++ hook_word hook) }
 {
     let mut line = b"type=1420 ipe_op=".to_vec(alloc)?;
     line.extend_from_slice(op.word().as_bytes())?;
@@ -60,7 +61,8 @@ fn append_switch(line: &mut Vec<u8>, enforce: bool) -> Result<(), AllocError>
 }
 
 fn append_task(alloc: Global, line: &mut Vec<u8>, subject: &Subject) -> Result<(), AllocError>
-    ensures { OnOk result (line.new.items ≡ line.old.items ++ codes " pid=" ++ decimal subject.now.pid ++ codes " comm=\"" ++ subject.now.comm ++ codes "\" ") }
+    ensures { OnOk result (line.new.items ≡ line.old.items ++ codes " pid=" ++ decimal subject.now.pid
+        ++ codes " comm=\"" ++ subject.now.comm ++ codes "\" ") }
 {
     let pid = subject.pid.to_string(alloc)?;
     line.extend_from_slice(b" pid=")?;
@@ -97,8 +99,8 @@ fn access_by(
     Ok(line)
 }
 
-/// The record of an access, of type 1420, without an end of line. `enforce` is the switch at the claim, and the hit what the
-/// active policy's image answered for the operation.
+/// The record of an access, of type 1420, without an end of line. `enforce` is the switch at the claim, and the hit
+/// what the active policy's image answered for the operation.
 pub fn access_line(
     alloc: Global,
     op: Op,
@@ -111,7 +113,8 @@ pub fn access_line(
     requires { IsHit op hit.now }
     ensures { (words : List ℕ) (parts : ImageParts) (context : Context) → image_in words ≡ Some parts →
         IsAnswer parts op context hit.now →
-        IfOk result (λ line. decided_text op hook enforce subject.now object.now (deciding parts op hit.now.found) ≡ Some line.items) }
+        IfOk result (λ line. decided_text op hook enforce subject.now object.now (deciding parts op hit.now.found)
+        ≡ Some line.items) }
 {
     let rule = rule_text(alloc, op, hit)?;
     let line = access_by(alloc, op, hook, enforce, subject, object, &rule)?;

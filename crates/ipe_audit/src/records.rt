@@ -27,7 +27,8 @@ fn append_policy(
     keys: Keys,
     policy: &Brief,
 ) -> Result<(), AllocError>
-    ensures { OnOk result (line.new.items ≡ line.old.items ++ told keys.name.now keys.version.now keys.digest.now policy.now) }
+    ensures { OnOk result (line.new.items ≡ line.old.items
+        ++ told keys.name.now keys.version.now keys.digest.now policy.now) }
 {
     let version = policy.version.to_string(alloc)?;
     let digits = hex::encode(alloc, policy.digest)?;

@@ -14,7 +14,8 @@ next_place machine = record { epoch = machine.policies.epoch; count = machine.co
 
 -- the outcome of a command
 abbrev pub outcome_of : Verdicts → Machine → Command → CoreOutcome
-outcome_of verdicts machine command = record { epoch = (after verdicts machine.policies command).epoch; reply = answer verdicts machine.policies command }
+outcome_of verdicts machine command =
+    record { epoch = (after verdicts machine.policies command).epoch; reply = answer verdicts machine.policies command }
 
 -- only a command may, and of one who may administer
 abbrev pub wants_memory : Event → Bool

@@ -16,7 +16,8 @@ pub fn run_events<S: Signer>(
     requires { IsLegal (S.verdict_of signer.now) state.old events.now }
     ensures replies { IfOk result (λ found. found ≡ replies (S.verdict_of signer.now) state.old events.now) }
     ensures after { IfOk result (λ _. state.new ≡ after_all (S.verdict_of signer.now) state.old events.now) }
-    ensures err { OnErr result ((k : ℕ) × (state.new ≡ after_all (S.verdict_of signer.now) state.old (take k events.now))) }
+    ensures err { OnErr result ((k : ℕ)
+        × (state.new ≡ after_all (S.verdict_of signer.now) state.old (take k events.now))) }
 {
     let mut found = Vec::new(alloc);
     for event in events.as_slice() {

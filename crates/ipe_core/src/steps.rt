@@ -54,7 +54,8 @@ fn run_command<S: Signer>(
 ) -> Result<CoreOutcome, AllocError>
     requires { state.old.policies.next < 2 ^ 63 }
     ensures reply { IfOk result (λ outcome. outcome ≡ outcome_of (S.verdict_of signer.now) state.old command.now) }
-    ensures after { IfOk result (λ _. state.new ≡ with_policies state.old (after (S.verdict_of signer.now) state.old.policies command.now)) }
+    ensures after { IfOk result (λ _. state.new
+        ≡ with_policies state.old (after (S.verdict_of signer.now) state.old.policies command.now)) }
     ensures err { OnErr result (state.new ≡ state.old) }
     ensures memory { OnErr result (IsTrue command.now.may) }
 {

@@ -56,7 +56,8 @@ digest_of script (digest.Text place) = sha256 (bytes_of script place)
 digest_of script (digest.Hex bytes) = bytes
 
 abbrev pub mark_of : Script → MarkLine → Mark
-mark_of script mark = record { purpose = purpose_of mark.purpose; verdict = says mark.verdict; digest = digest_of script mark.digest }
+mark_of script mark =
+    record { purpose = purpose_of mark.purpose; verdict = says mark.verdict; digest = digest_of script mark.digest }
 
 -- the marks of a file, in its order
 abbrev pub marks_of : Script → List Mark
@@ -74,13 +75,16 @@ context_of None = record { boot = false; dm = None; fs = None }
 -- the file at a place
 abbrev pub object_of : Script → Option ℕ → Object
 object_of script None = object.NoFile
-object_of script (Some place) = option_map_or (λ (file : FileLine). object.File file.path file.dev file.ino) (slice_get script.files place) object.NoFile
+object_of script (Some place) =
+    option_map_or (λ (file : FileLine). object.File file.path file.dev file.ino)
+    (slice_get script.files place) object.NoFile
 
 -- what a write asks for: a command, or why it asks for none
 abbrev pub asked_by : Script → Bool → List ℕ → WriteContent → Result Command Refusal
 asked_by script may node content = node_write node (content_of script content) may
 
--- what a line is replied: a write the epoch after it, its answer and its records; a read the epoch and what is told; a hook its ruling, and the record where one is due
+-- what a line is replied: a write the epoch after it, its answer and its records; a read the epoch and what is told; a
+-- hook its ruling, and the record where one is due
 pub data LineReply : Type 0 where
   wrote : ℕ → Result Done Refusal → List (List ℕ) → LineReply
   told : ℕ → Result (List ℕ) Refusal → LineReply
@@ -90,14 +94,17 @@ pub data LineReply : Type 0 where
 abbrev pub write_reply : Verdicts → Machine → Result Command Refusal → LineReply
 write_reply verdicts machine (Err refusal) = wrote machine.policies.epoch (Err refusal) []
 write_reply verdicts machine (Ok command) =
-    wrote (after verdicts machine.policies command).epoch (answer verdicts machine.policies command) (records_of verdicts machine.policies command)
+    wrote (after verdicts machine.policies command).epoch (answer verdicts machine.policies command)
+    (records_of verdicts machine.policies command)
 
 -- the reply to a line
 abbrev pub task_reply : Script → Machine → Task → LineReply
-task_reply script machine (Write may node content) = write_reply (verdicts_of script) machine (asked_by script may node content)
+task_reply script machine (Write may node content) =
+    write_reply (verdicts_of script) machine (asked_by script may node content)
 task_reply script machine (Read node) = told machine.policies.epoch (node_read machine.policies node)
 task_reply script machine (Hook request subject file) =
-    ruled (ruling_for machine (evaluated_op request) (context_of file)) (access_of machine request subject (object_of script file) (context_of file))
+    ruled (ruling_for machine (evaluated_op request) (context_of file))
+    (access_of machine request subject (object_of script file) (context_of file))
 
 abbrev pub line_reply : Script → Machine → PhaseLine → LineReply
 line_reply script machine line = task_reply script machine line.task
@@ -110,11 +117,13 @@ after_write verdicts machine (Ok command) = after_event verdicts machine (event.
 -- the machine after a claim, which is returned at once where it is on a policy
 abbrev pub after_hook : Verdicts → Machine → Option Op → Machine
 after_hook verdicts machine op =
-    if is_some op && is_some (active_entry machine.policies) then after_event verdicts (after_claim machine 0 op) (event.Return 0) else after_claim machine 0 op
+    if is_some op && is_some (active_entry machine.policies)
+    then after_event verdicts (after_claim machine 0 op) (event.Return 0) else after_claim machine 0 op
 
 -- the machine after a line
 abbrev pub after_task : Script → Machine → Task → Machine
-after_task script machine (Write may node content) = after_write (verdicts_of script) machine (asked_by script may node content)
+after_task script machine (Write may node content) =
+    after_write (verdicts_of script) machine (asked_by script may node content)
 after_task script machine (Read node) = machine
 after_task script machine (Hook request subject file) = after_hook (verdicts_of script) machine (evaluated_op request)
 
@@ -131,7 +140,8 @@ pub record Acted : Type 0 where
 abbrev pub entries_of : Script → Machine → List PhaseLine → List Acted
 entries_of script machine [] = []
 entries_of script machine (line ∷ lines) =
-    record { line = line; reply = line_reply script machine line; before = machine.policies.epoch } ∷ entries_of script (after_line script machine line) lines
+    record { line = line; reply = line_reply script machine line; before = machine.policies.epoch }
+    ∷ entries_of script (after_line script machine line) lines
 
 -- the machine after lines
 abbrev pub after_lines : Script → Machine → List PhaseLine → Machine
@@ -141,7 +151,8 @@ after_lines script machine (line ∷ lines) = after_lines script (after_line scr
 -- the entries of phases, phase by phase
 abbrev pub phases_entries : Script → Machine → List (List PhaseLine) → List (List Acted)
 phases_entries script machine [] = []
-phases_entries script machine (lines ∷ phases) = entries_of script machine lines ∷ phases_entries script (after_lines script machine lines) phases
+phases_entries script machine (lines ∷ phases) =
+    entries_of script machine lines ∷ phases_entries script (after_lines script machine lines) phases
 
 -- the machine at the start, with one pass
 abbrev pub at_the_start : Machine
@@ -149,13 +160,15 @@ at_the_start = first_machine 1
 
 -- a part has a phase's lines, each once, and each one's in that one's order
 abbrev pub IsWeaveOf : List PhaseLine → List PhaseLine → Type 0
-IsWeaveOf part lines = (actor : ℕ) → filter (λ line. actor_of line == actor) part ≡ filter (λ line. actor_of line == actor) lines
+IsWeaveOf part lines =
+    (actor : ℕ) → filter (λ line. actor_of line == actor) part ≡ filter (λ line. actor_of line == actor) lines
 
 -- an order is cut into one part per phase, each a weave of that phase's lines
 abbrev pub IsWeave : Script → List (List PhaseLine) → Type 0
 IsWeave script order = AllZip IsWeaveOf order script.phases
 
--- where an entry belongs within its phase: by epoch; in an epoch the command that began it, then other commands in the administrator's order, then claims by their count
+-- where an entry belongs within its phase: by epoch; in an epoch the command that began it, then other commands in the
+-- administrator's order, then claims by their count
 pub record Key : Type 0 where
   pub epoch : ℕ
   pub rank : ℕ
@@ -168,7 +181,8 @@ claim_key (Some place) = Some (record { epoch = place.epoch; rank = 2; within = 
 -- a write that changes the epoch begins its own; every other command keeps its line's place among those that don't
 abbrev pub write_key : ℕ → ℕ → ℕ → Key
 write_key line before epoch =
-    if epoch == before then record { epoch = before; rank = 1; within = line } else record { epoch = epoch; rank = 0; within = 0 }
+    if epoch == before then record { epoch = before; rank = 1; within = line }
+    else record { epoch = epoch; rank = 0; within = 0 }
 
 abbrev pub reply_key : ℕ → ℕ → LineReply → Option Key
 reply_key line before (wrote epoch answer records) = Some (write_key line before epoch)
@@ -180,7 +194,8 @@ abbrev pub key_of : Acted → Option Key
 key_of entry = reply_key entry.line.line entry.before entry.reply
 
 abbrev pub IsBefore : Key → Key → Type 0
-IsBefore a b = (a.epoch < b.epoch) ⊎ ((a.epoch ≡ b.epoch) × ((a.rank < b.rank) ⊎ ((a.rank ≡ b.rank) × (a.within < b.within))))
+IsBefore a b =
+    (a.epoch < b.epoch) ⊎ ((a.epoch ≡ b.epoch) × ((a.rank < b.rank) ⊎ ((a.rank ≡ b.rank) × (a.within < b.within))))
 
 -- keys rise from each to the next
 abbrev pub Rises : List Key → Type 0
@@ -205,7 +220,8 @@ UnplacedStand before (entry ∷ entries) =
     (key_of entry ≡ None → FollowsItsOwn before entry ⊎ StandsAtTheBeginning before entry)
     × UnplacedStand (entry ∷ before) entries
 
--- in each phase the entries that have a place stand in their places, and the others behind their own actor's or at the beginning
+-- in each phase the entries that have a place stand in their places, and the others behind their own actor's or at the
+-- beginning
 abbrev pub IsInPlace : Script → List (List PhaseLine) → Type 0
 IsInPlace script order =
     AllByRecursion (λ (entries : List Acted). Rises (filter_map key_of entries) × UnplacedStand [] entries)

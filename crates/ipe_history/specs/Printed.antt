@@ -31,7 +31,8 @@ is_evaluated line = is_evaluated_task line.task
 abbrev pub from_first : {X : Type 0} → (X → Bool) → List X → List X
 from_first test xs = drop (position_or_len test xs) xs
 
--- the lines of a phase as they are printed: the hooks before the first that is evaluated, the commands, and the other hooks
+-- the lines of a phase as they are printed: the hooks before the first that is evaluated, the commands, and the other
+-- hooks
 abbrev pub printed : List PhaseLine → List PhaseLine
 printed lines =
     let hooks : List PhaseLine = from_first is_hook lines in

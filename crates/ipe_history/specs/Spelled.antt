@@ -8,7 +8,8 @@ use Rattle.ipe_script.specs.Grammar.{is_line_feed}
 
 -- the number that stands between `line=`, with which a line begins, and the next blank
 abbrev pub line_spells : List ℕ → Option ℕ
-line_spells line = when (is_text (codes "line=") (take 5 line)) (number_of 4294967295 (before_first is_blank (drop 5 line)))
+line_spells line =
+    when (is_text (codes "line=") (take 5 line)) (number_of 4294967295 (before_first is_blank (drop 5 line)))
 
 -- the numbers that a text's lines spell, one line after another
 unfoldable pub spelled : List ℕ → List ℕ
@@ -24,4 +25,5 @@ numbers_of order = flat_map part_numbers order
 
 -- the numbers of an order's lines are below this one
 abbrev pub NumbersBelow : ℕ → List (List PhaseLine) → Type 0
-NumbersBelow above order = AllByRecursion (λ (lines : List PhaseLine). AllByRecursion (λ (line : PhaseLine). line.line < above) lines) order
+NumbersBelow above order =
+    AllByRecursion (λ (lines : List PhaseLine). AllByRecursion (λ (line : PhaseLine). line.line < above) lines) order

@@ -33,19 +33,24 @@ abbrev pub entry_of : PhaseLine → LineReply → Entry
 entry_of line (wrote epoch answer records) = entry.Write line.line (may_of line.task) (code_of answer) epoch records
 entry_of line (told epoch answer) = entry.Read line.line (code_of answer) epoch (result_ok answer)
 entry_of line (ruled ruling access) =
-    entry.Hook line.line (actor_of line) ruling.code ruling.place ruling.serial (option_map (λ (found : Found). found.which) ruling.found) access
+    entry.Hook line.line (actor_of line) ruling.code ruling.place ruling.serial
+    (option_map (λ (found : Found). found.which) ruling.found) access
 
 -- the entries of lines, one after another
 abbrev pub lines_text : Script → Machine → List PhaseLine → List ℕ
 lines_text script machine [] = []
-lines_text script machine (line ∷ lines) = entry_text (entry_of line (line_reply script machine line)) ++ lines_text script (after_line script machine line) lines
+lines_text script machine (line ∷ lines) =
+    entry_text (entry_of line (line_reply script machine line))
+    ++ lines_text script (after_line script machine line) lines
 
 -- phases from this number on
 abbrev pub phases_text : Script → ℕ → Machine → List (List PhaseLine) → List ℕ
 phases_text script number machine [] = []
 phases_text script number machine (lines ∷ phases) =
-    line_text (codes "phase " ++ decimal number) ++ lines_text script machine lines ++ phases_text script (number + 1) (after_lines script machine lines) phases
+    line_text (codes "phase " ++ decimal number) ++ lines_text script machine lines
+    ++ phases_text script (number + 1) (after_lines script machine lines) phases
 
 -- the transcript of an order
 unfoldable pub transcript : Script → List (List PhaseLine) → List ℕ
-transcript script order = line_text (codes "ipe-transcript 1") ++ phases_text script 1 at_the_start order ++ line_text (codes "end")
+transcript script order =
+    line_text (codes "ipe-transcript 1") ++ phases_text script 1 at_the_start order ++ line_text (codes "end")

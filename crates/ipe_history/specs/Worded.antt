@@ -20,7 +20,9 @@ IsWordedTask (Hook request subject file) = is_comm subject.comm ≡ true
 
 -- each hook of an order is of such a task
 abbrev pub AreWordedLines : List (List PhaseLine) → Type 0
-AreWordedLines order = AllByRecursion (λ (lines : List PhaseLine). AllByRecursion (λ (line : PhaseLine). IsWordedTask line.task) lines) order
+AreWordedLines order =
+    AllByRecursion
+    (λ (lines : List PhaseLine). AllByRecursion (λ (line : PhaseLine). IsWordedTask line.task) lines) order
 
 -- the words of a script's files, and of an order's lines, meet their rules
 abbrev pub HasWords : Script → List (List PhaseLine) → Type 0

@@ -9,9 +9,9 @@ ghost use Rattle.ipe_script.specs.Script.{Script};
 ghost use Rattle.std.specs.List.{sum_by};
 ghost use Rattle.std.specs.Prelude.{◌≡◌, ℕ, ◌+◌, ◌^◌, ◌≤◌, List, length, map, Ok};
 
-/// Each line's own order is kept where the lines of each phase are printed as `printed` says, and each line stands in its
-/// place. A bound of the numbers of lines bounds them as they are printed, too, and words that meet their rules meet them
-/// there.
+/// Each line's own order is kept where the lines of each phase are printed as `printed` says, and each line stands in
+/// its place. A bound of the numbers of lines bounds them as they are printed, too, and words that meet their rules
+/// meet them there.
 pub fn printed_order_is_in_place()
     ensures weave { (script : Script) → IsFileOrder script → IsWeave script (map printed script.phases) }
     ensures in_place { (script : Script) → IsFileOrder script → IsInPlace script (map printed script.phases) }
@@ -21,8 +21,8 @@ pub fn printed_order_is_in_place()
         HasWords script (map printed order) }
 {}
 
-/// What is read of a request file has each phase's commands before its hooks, all in the order of the file, and has no more
-/// lines than the file has bytes, and one. No line's number is higher than that, and its words meet their rules.
+/// What is read of a request file has each phase's commands before its hooks, all in the order of the file, and has no
+/// more lines than the file has bytes, and one. No line's number is higher than that, and its words meet their rules.
 pub fn requests_are_in_file_order()
     ensures order { (input : List ℕ) (script : Script) → requests_of input ≡ Ok script → IsFileOrder script }
     ensures few { (input : List ℕ) (script : Script) → requests_of input ≡ Ok script →
@@ -33,8 +33,8 @@ pub fn requests_are_in_file_order()
         HasWords script script.phases }
 {}
 
-/// A transcript spells its own order: the numbers behind `line=`, line after line, are those of the order's lines, one after
-/// another. So it is where the words of the request file meet their rules, as they do in each that is read.
+/// A transcript spells its own order: the numbers behind `line=`, line after line, are those of the order's lines, one
+/// after another. So it is where the words of the request file meet their rules, as they do in each that is read.
 pub fn transcripts_spell_their_order()
     ensures spells { (script : Script) (order : List (List PhaseLine)) → HasWords script order →
         NumbersBelow (2 ^ 32) order → spelled (transcript script order) ≡ numbers_of order }

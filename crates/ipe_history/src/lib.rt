@@ -1,6 +1,6 @@
-//! What the machine answers to the lines of a request file, the orders in which a transcript may have them, and the bytes of a
-//! transcript, which spell its order: definitions and laws. [`printed_parts`] puts the lines of a phase into the order in
-//! which they are printed.
+//! What the machine answers to the lines of a request file, the orders in which a transcript may have them, and the
+//! bytes of a transcript, which spell its order: definitions and laws. [`printed_parts`] puts the lines of a phase into
+//! the order in which they are printed.
 #![tactic(auto)]
 
 mod laws;

@@ -53,8 +53,8 @@ fn split_at_evaluated(hooks: &[PhaseLine]) -> (&[PhaseLine], &[PhaseLine])
     hooks.split_at(first_evaluated(hooks).unwrap_or(hooks.len()))
 }
 
-/// The lines of a phase as they are printed, in three parts: the hooks before the first that is evaluated, the commands, and the
-/// other hooks. They are all of its lines.
+/// The lines of a phase as they are printed, in three parts: the hooks before the first that is evaluated, the
+/// commands, and the other hooks. They are all of its lines.
 pub fn printed_parts(lines: &[PhaseLine]) -> (&[PhaseLine], &[PhaseLine], &[PhaseLine])
     ensures early { result.0.now ≡ before_first is_evaluated (from_first is_hook lines.now) }
     ensures commands { result.1.now ≡ before_first is_hook lines.now }

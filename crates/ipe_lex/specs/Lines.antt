@@ -55,7 +55,8 @@ pub record PlacedToken : Type 0 where
 abbrev pub placed_lines : ℕ → ℕ → List (List ℕ) → List PlacedLine
 placed_lines number start [] = []
 placed_lines number start (line ∷ lines) =
-    record { number = number; start = start; bytes = uncommented line } ∷ placed_lines (number + 1) (start + length line + 1) lines
+    record { number = number; start = start; bytes = uncommented line }
+    ∷ placed_lines (number + 1) (start + length line + 1) lines
 
 -- one more byte before the first token, which then begins here
 abbrev pub onto_token : ℕ → ℕ → List PlacedToken → List PlacedToken

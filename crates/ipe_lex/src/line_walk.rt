@@ -2,8 +2,8 @@ ghost use Rattle.std.specs.Prelude.{◌≡◌, ◌+◌, ◌≤◌, length, posit
 ghost use Rattle.std.specs.List.{after_first, before_first};
 ghost use Rattle.ipe_lex.specs.Lines.{is_comment_sign, is_line_feed, uncommented};
 
-/// A line without its line feed and its comment. Lines are numbered from 1, and `start` is the place of the line's first
-/// byte in the text.
+/// A line without its line feed and its comment. Lines are numbered from 1, and `start` is the place of the line's
+/// first byte in the text.
 #[derive(Clone, Copy, Debug)]
 pub struct Line<'a> {
     pub number: u32,

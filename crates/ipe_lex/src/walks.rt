@@ -4,7 +4,8 @@ ghost use Rattle.ipe_lex.specs.Walks.{lines_left, tokens_left};
 
 use crate::{Line, LineWalk, TokenWalk};
 
-/// Every line of a text in order, numbered from 1 and without its comment. A last line without a line feed is a line too.
+/// Every line of a text in order, numbered from 1 and without its comment. A last line without a line feed is a line
+/// too.
 pub fn lines(text: &[u8]) -> LineWalk<'_>
     requires { length text.now ≤ 1048576 }
     ensures { lines_left result ≡ placed_lines 1 0 (lines_of text.now) }

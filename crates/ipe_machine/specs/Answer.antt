@@ -59,7 +59,8 @@ verdict_on verdicts text = verdicts purpose.Policy (sha256 text)
 abbrev pub when_it_reads : Result PolicyParts BadText → (PolicyParts → Result Done Refusal) → Result Done Refusal
 when_it_reads (Err fault) go_on = Err (BadPolicy fault)
 when_it_reads (Ok policy) go_on =
-    if nat_lt most_words (words_of_image policy.items) then Err (TooWide (words_of_image policy.items)) else go_on policy
+    if nat_lt most_words (words_of_image policy.items) then Err (TooWide (words_of_image policy.items))
+    else go_on policy
 
 -- a text that is not too big, and that the signer trusts, goes on to the next conditions
 abbrev pub when_it_is_taken : Verdicts → List ℕ → (PolicyParts → Result Done Refusal) → Result Done Refusal
@@ -103,7 +104,8 @@ abbrev pub activation_of : Policies → List ℕ → Option state.Loaded → Res
 activation_of policies name None = Err NoEntry
 activation_of policies name (Some entry) =
     if is_active name policies then Ok AlreadyActive
-    else unless_stale (active_entry policies) entry.version (if policies.epoch == last_epoch then Err EpochFull else Ok Activated)
+    else unless_stale (active_entry policies) entry.version
+    (if policies.epoch == last_epoch then Err EpochFull else Ok Activated)
 
 abbrev pub activate_answer : Policies → List ℕ → Value → Result Done Refusal
 activate_answer policies name wanted =
@@ -120,8 +122,10 @@ delete_answer policies name wanted =
 -- a switch that is on or off, and what is written to it
 abbrev pub switch_answer : Policies → Bool → Value → Result Done Refusal
 switch_answer policies present value.Bad = Err BadValue
-switch_answer policies present value.True = if present then Ok Same else if policies.epoch == last_epoch then Err EpochFull else Ok Changed
-switch_answer policies present value.False = if not present then Ok Same else if policies.epoch == last_epoch then Err EpochFull else Ok Changed
+switch_answer policies present value.True =
+    if present then Ok Same else if policies.epoch == last_epoch then Err EpochFull else Ok Changed
+switch_answer policies present value.False =
+    if not present then Ok Same else if policies.epoch == last_epoch then Err EpochFull else Ok Changed
 
 -- the answer to one who may administer
 abbrev pub act_answer : Verdicts → Policies → Act → Result Done Refusal
@@ -144,7 +148,10 @@ later policies = record policies { epoch = policies.epoch + 1 }
 abbrev pub changed : Policies → Act → Policies
 changed policies (Load text) = added policies (entry_of policies.next text)
 changed policies (Update name text) =
-    let with_entry : Policies = record policies { loaded = replaced policies.loaded name (entry_of policies.next text); next = policies.next + 1 } in
+    let with_entry : Policies = record policies {
+      loaded = replaced policies.loaded name (entry_of policies.next text);
+      next = policies.next + 1;
+    } in
     if is_active name policies then later with_entry else with_entry
 changed policies (Activate name wanted) = later (record policies { active = Some name })
 changed policies (Delete name wanted) = record policies { loaded = without policies.loaded name }

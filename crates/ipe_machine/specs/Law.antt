@@ -13,4 +13,5 @@ ActiveVersionNeverFalls =
     (verdicts : Verdicts) (passes : ℕ) (before more : List Event) (entry : Loaded) →
     IsLegal verdicts (first_machine passes) (before ++ more) →
     active_entry (after_all verdicts (first_machine passes) before).policies ≡ Some entry →
-    (later : Loaded) × (active_entry (after_all verdicts (first_machine passes) (before ++ more)).policies ≡ Some later) × (packed entry.version ≤ packed later.version)
+    (later : Loaded) × (active_entry (after_all verdicts (first_machine passes) (before ++ more)).policies ≡ Some later)
+    × (packed entry.version ≤ packed later.version)

@@ -1,4 +1,5 @@
--- The machine: the policies, the claims of the present epoch, and what each pass holds. One step of it is a command, a claim or a return.
+-- The machine: the policies, the claims of the present epoch, and what each pass holds. One step of it is a command, a
+-- claim or a return.
 use Rattle.std.specs.Prelude.{ℕ, ◌+◌, ◌^◌, ◌==◌, pos, negsuc, Bool, true, false, ◌&&◌, ◌||◌, nat_lt, if◌then◌else◌, List, Option, Some, None, slice_get, slice_set, replicate}
 use Rattle.std.specs.Option.{option_map_or}
 use Rattle.ipe_policy.specs.declared.op.Op.{Op}
@@ -35,7 +36,8 @@ denies found = option_map_or (λ (f : Found). is_deny f.action) found false
 
 -- the ruling on a request that isn't evaluated
 abbrev pub ruling_unevaluated : CoreRuling
-ruling_unevaluated = record { code = pos 0; place = None; serial = None; found = None; enforce = false; record_due = false }
+ruling_unevaluated =
+    record { code = pos 0; place = None; serial = None; found = None; enforce = false; record_due = false }
 
 -- the ruling at a claim without an active policy
 abbrev pub ruling_unruled : Machine → CoreRuling
@@ -73,7 +75,8 @@ ruling_for machine (Some op) context = ruling_at machine (active_entry machine.p
 -- one more claim in this epoch, by which the pass holds the active policy
 abbrev pub claimed : Machine → ℕ → Option Loaded → Machine
 claimed machine pass None = record machine { count = machine.count + 1 }
-claimed machine pass (Some entry) = record machine { count = machine.count + 1; held = slice_set machine.held pass (Some entry.serial) }
+claimed machine pass (Some entry) =
+    record machine { count = machine.count + 1; held = slice_set machine.held pass (Some entry.serial) }
 
 abbrev pub after_claim : Machine → ℕ → Option Op → Machine
 after_claim machine pass None = machine
@@ -81,19 +84,28 @@ after_claim machine pass (Some op) = claimed machine pass (active_entry machine.
 
 -- the machine with these policies: where the epoch has risen, no claim is counted in it yet
 abbrev pub with_policies : Machine → Policies → Machine
-with_policies machine policies = record machine { policies = policies; count = if policies.epoch == machine.policies.epoch then machine.count else 0 }
+with_policies machine policies =
+    record machine {
+      policies = policies;
+      count = if policies.epoch == machine.policies.epoch then machine.count else 0;
+    }
 
 -- the reply to an event
 abbrev pub reply_to : Verdicts → Machine → Event → Reply
 reply_to verdicts machine (event.Command command) =
-    reply.Command (record { epoch = (after verdicts machine.policies command).epoch; reply = answer verdicts machine.policies command })
-reply_to verdicts machine (event.Claim pass request subject object context) = reply.Claimed (ruling_for machine (evaluated_op request) context)
+    reply.Command (record {
+      epoch = (after verdicts machine.policies command).epoch;
+      reply = answer verdicts machine.policies command;
+    })
+reply_to verdicts machine (event.Claim pass request subject object context) =
+    reply.Claimed (ruling_for machine (evaluated_op request) context)
 reply_to verdicts machine (event.Return pass) = reply.Returned
 
 -- the machine after an event
 abbrev pub after_event : Verdicts → Machine → Event → Machine
 after_event verdicts machine (event.Command command) = with_policies machine (after verdicts machine.policies command)
-after_event verdicts machine (event.Claim pass request subject object context) = after_claim machine pass (evaluated_op request)
+after_event verdicts machine (event.Claim pass request subject object context) =
+    after_claim machine pass (evaluated_op request)
 after_event verdicts machine (event.Return pass) = record machine { held = slice_set machine.held pass None }
 
 -- a pass of the machine that holds nothing
@@ -111,5 +123,6 @@ is_holding (Some (Some serial)) = true
 -- an event is allowed where it stands
 abbrev pub is_allowed : Machine → Event → Bool
 is_allowed machine (event.Command command) = nat_lt machine.policies.next (2 ^ 63)
-is_allowed machine (event.Claim pass request subject object context) = nat_lt machine.count (2 ^ 40) && is_free (slice_get machine.held pass)
+is_allowed machine (event.Claim pass request subject object context) =
+    nat_lt machine.count (2 ^ 40) && is_free (slice_get machine.held pass)
 is_allowed machine (event.Return pass) = is_holding (slice_get machine.held pass)

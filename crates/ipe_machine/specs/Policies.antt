@@ -1,4 +1,5 @@
--- What the administrator's commands act on: the loaded policies, the active one, the two switches, the epoch and the next serial.
+-- What the administrator's commands act on: the loaded policies, the active one, the two switches, the epoch and the
+-- next serial.
 use Rattle.std.specs.Prelude.{ℕ, ◌+◌, Bool, true, false, List, [], ◌∷◌, ◌++◌, Option, None, slice_get, slice_set, position, remove}
 use Rattle.std.specs.Option.{option_map_or, option_and_then, unwrap_or}
 use Rattle.std.specs.Result.{result_ok}
@@ -56,7 +57,8 @@ policy_in text = unwrap_or (result_ok (reading text)) no_policy
 
 -- the entry that a text makes
 abbrev pub entry_of : ℕ → List ℕ → Loaded
-entry_of serial text = record { name = (policy_in text).name; version = (policy_in text).version; text = text; serial = serial }
+entry_of serial text =
+    record { name = (policy_in text).name; version = (policy_in text).version; text = text; serial = serial }
 
 -- the entry stands last
 abbrev pub added : Policies → Loaded → Policies

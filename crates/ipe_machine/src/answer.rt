@@ -17,8 +17,8 @@ pub enum Done {
     Same,
 }
 
-/// Why a command was refused. `Stale` has the version that stands and the one that was offered, `TooWide` the words that
-/// the policy's image needs.
+/// Why a command was refused. `Stale` has the version that stands and the one that was offered, `TooWide` the words
+/// that the policy's image needs.
 #[derive(Clone, Copy, Debug, PartialEq, Eq)]
 pub enum Refusal {
     NotPermitted,

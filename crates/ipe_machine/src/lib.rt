@@ -1,7 +1,7 @@
 //! The commands of an administrator, the events of the machine, their answers, and what each of them means.
 //!
-//! This crate has the types that are handed to the machine and that it answers, and the definitions by which every crate
-//! above it says what it does: the answer to a command, one step, a whole run.
+//! This crate has the types that are handed to the machine and that it answers, and the definitions by which every
+//! crate above it says what it does: the answer to a command, one step, a whole run.
 #![tactic(auto)]
 
 mod answer;

@@ -21,7 +21,8 @@ fn leaf_read(
     name: &Name,
     leaf: Leaf,
 ) -> Result<Result<Vec<u8>, Refusal>, AllocError>
-    ensures { IfOk result (λ answer. bytes_in answer ≡ leaf_read registry.now name.now (entry_named name.now registry.now.loaded) leaf) }
+    ensures { IfOk result (λ answer. bytes_in answer
+        ≡ leaf_read registry.now name.now (entry_named name.now registry.now.loaded) leaf) }
 {
     let bytes = match (leaf, registry.entry(name)) {
         (Leaf::Update | Leaf::Delete, _) => return Ok(Err(Refusal::Direction)),

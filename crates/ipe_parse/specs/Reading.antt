@@ -1,4 +1,5 @@
--- What a policy text says: the policy that it reads as, or its first fault. Lines are examined from the top, and the first line with a fault decides.
+-- What a policy text says: the policy that it reads as, or its first fault. Lines are examined from the top, and the
+-- first line with a fault decides.
 use Rattle.std.specs.Prelude.{◌≡◌, ℕ, Bool, nat_lt, if◌then◌else◌, List, [], ◌∷◌, ◌++◌, length, map, Option, Some, None, Result, Ok, Err}
 use Rattle.std.specs.List.{filter, enumerate_from}
 use Rattle.ipe_lex.specs.Lines.{lines_of, uncommented, tokens_of}
@@ -25,7 +26,10 @@ is_spoken line = nat_lt 0 (length line.tokens)
 
 -- the lines that have tokens, as their tokens, each with its number from 1
 abbrev pub spoken_lines : List ℕ → List SpokenLine
-spoken_lines text = filter is_spoken (map (λ (line : ℕ × List ℕ). record { number = line.0; tokens = tokens_of (uncommented line.1) }) (enumerate_from 1 (lines_of text)))
+spoken_lines text =
+    filter is_spoken (map
+    (λ (line : ℕ × List ℕ). record { number = line.0; tokens = tokens_of (uncommented line.1) })
+    (enumerate_from 1 (lines_of text)))
 
 -- a statement that repeats no default
 abbrev pub not_twice : List Statement → Result Statement BadKind → Result Statement BadKind
@@ -50,7 +54,8 @@ Err fault >>= next = Err fault
 -- the statements of lines, behind those before them, or the first fault
 abbrev pub statements_from : List Statement → List SpokenLine → Result (List Statement) BadText
 statements_from before [] = Ok before
-statements_from before (line ∷ lines) = next_statement before line >>= λ statement. statements_from (before ++ statement ∷ []) lines
+statements_from before (line ∷ lines) =
+    next_statement before line >>= λ statement. statements_from (before ++ statement ∷ []) lines
 
 -- the policy of a header and statements, where no operation is left without a default
 abbrev pub completed : Header → List Statement → Option Op → Result PolicyParts BadText

@@ -27,19 +27,23 @@ pub record SpellsDigest (word : List ℕ) (digest : Digest) : Type 0 where
 -- the token spells the property
 abbrev pub SpellsProperty : List ℕ → Property → Type 0
 SpellsProperty token (BootVerified wanted) = token ≡ codes "boot_verified=" ++ truth_word wanted
-SpellsProperty token (DmverityRoothash digest) = (word : List ℕ) × (token ≡ codes "dmverity_roothash=" ++ word) × SpellsDigest word digest
+SpellsProperty token (DmverityRoothash digest) =
+    (word : List ℕ) × (token ≡ codes "dmverity_roothash=" ++ word) × SpellsDigest word digest
 SpellsProperty token (DmveritySignature wanted) = token ≡ codes "dmverity_signature=" ++ truth_word wanted
-SpellsProperty token (FsverityDigest digest) = (word : List ℕ) × (token ≡ codes "fsverity_digest=" ++ word) × SpellsDigest word digest
+SpellsProperty token (FsverityDigest digest) =
+    (word : List ℕ) × (token ≡ codes "fsverity_digest=" ++ word) × SpellsDigest word digest
 SpellsProperty token (FsveritySignature wanted) = token ≡ codes "fsverity_signature=" ++ truth_word wanted
 
 -- the tokens of a line spell the statement
 abbrev pub SpellsStatement : List (List ℕ) → Statement → Type 0
 SpellsStatement tokens (Rule op properties action) =
-    (words : List (List ℕ)) × (tokens ≡ op_token op ∷ (words ++ action_token action ∷ [])) × AllZip SpellsProperty words properties × (length properties ≤ 16)
+    (words : List (List ℕ)) × (tokens ≡ op_token op ∷ (words ++ action_token action ∷ []))
+    × AllZip SpellsProperty words properties × (length properties ≤ 16)
 SpellsStatement tokens (OpDefault op action) = tokens ≡ codes "DEFAULT" ∷ op_token op ∷ action_token action ∷ []
 SpellsStatement tokens (GlobalDefault action) = tokens ≡ codes "DEFAULT" ∷ action_token action ∷ []
 
--- the text reads as the policy: of its lines with tokens the first is the header, and the others are the statements, one for one
+-- the text reads as the policy: of its lines with tokens the first is the header, and the others are the statements,
+-- one for one
 pub record Reads (text : List ℕ) (policy : PolicyParts) : Type 0 where
   pub version_word : List ℕ
   pub lines : List (List (List ℕ))

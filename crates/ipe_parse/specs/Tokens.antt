@@ -37,7 +37,9 @@ op_named word = find (λ op. is_text (op_word op) word) operations
 
 -- the action of a token
 abbrev pub action_named : List ℕ → Option Action
-action_named token = if is_text (action_token Allow) token then Some Allow else if is_text (action_token Deny) token then Some Deny else None
+action_named token =
+    if is_text (action_token Allow) token then Some Allow else if is_text (action_token Deny) token then Some Deny
+    else None
 
 -- the action that the last token says
 abbrev pub last_action : List (List ℕ) → Option Action
@@ -54,7 +56,8 @@ is_colon byte = byte == 58
 abbrev pub digest_of : List ℕ → Option Digest
 digest_of word =
     if is_alg_name (before_first is_colon word)
-    then option_map (λ bytes. record { alg = before_first is_colon word; bytes = bytes }) (hex_bytes (after_first is_colon word))
+    then option_map (λ bytes. record { alg = before_first is_colon word; bytes = bytes })
+    (hex_bytes (after_first is_colon word))
     else None
 
 -- the property of a token that says TRUE or FALSE
@@ -71,8 +74,10 @@ truth_property_of token =
 -- the property of any other token
 abbrev pub digest_property_of : List ℕ → Result Property BadKind
 digest_property_of token =
-    if begins (codes "dmverity_roothash=") token then ok_or (option_map DmverityRoothash (digest_of (drop 18 token))) BadDigest
-    else if begins (codes "fsverity_digest=") token then ok_or (option_map FsverityDigest (digest_of (drop 16 token))) BadDigest
+    if begins (codes "dmverity_roothash=") token
+    then ok_or (option_map DmverityRoothash (digest_of (drop 18 token))) BadDigest
+    else if begins (codes "fsverity_digest=") token
+    then ok_or (option_map FsverityDigest (digest_of (drop 16 token))) BadDigest
     else Err BadProperty
 
 -- the first of two answers that is there
@@ -87,11 +92,14 @@ property_of token = or_else (truth_property_of token) (digest_property_of token)
 -- the properties of tokens, or the kind of the first bad one from the left
 abbrev pub properties_of : List (List ℕ) → Result (List Property) BadKind
 properties_of [] = Ok []
-properties_of (token ∷ tokens) = property_of token >>= λ property. properties_of tokens >>= λ properties. Ok (property ∷ properties)
+properties_of (token ∷ tokens) =
+    property_of token >>= λ property. properties_of tokens >>= λ properties. Ok (property ∷ properties)
 
 -- the action of a default, which stands alone behind the words before it
 abbrev pub lone_action : List (List ℕ) → Result Action BadKind
-lone_action tokens = ok_or (last_action tokens) BadAction >>= λ action. if nat_le (length tokens) 1 then Ok action else Err PropertyInDefault
+lone_action tokens =
+    ok_or (last_action tokens) BadAction >>= λ action.
+    if nat_le (length tokens) 1 then Ok action else Err PropertyInDefault
 
 -- the default that stands behind the word DEFAULT
 abbrev pub default_of : List (List ℕ) → Result Statement BadKind

@@ -22,4 +22,6 @@ spoken_line line = record { number = line.number; tokens = words line.tokens.ite
 -- the first line with tokens was taken off, or there is none
 abbrev pub TakesSpoken : LineWalk → Option Spoken → LineWalk → Type 0
 TakesSpoken before None after = spoken_left before ≡ []
-TakesSpoken before (Some line) after = (spoken_left before ≡ spoken_line line ∷ spoken_left after) × (length (lines_left after) < length (lines_left before))
+TakesSpoken before (Some line) after =
+    (spoken_left before ≡ spoken_line line ∷ spoken_left after)
+    × (length (lines_left after) < length (lines_left before))

@@ -69,7 +69,8 @@ fn without_last<'a, 'b>(tokens: &'b [&'a [u8]]) -> &'b [&'a [u8]]
 // The properties of a rule, between its operation and its action.
 fn rule_properties(alloc: Global, others: &[&[u8]]) -> Result<Properties, LineError>
     requires { length others.now ≤ 17 }
-    ensures { LineGives (λ properties. properties) result (properties_of (take (length (words others.now) - 1) (words others.now))) }
+    ensures { LineGives (λ properties. properties) result
+        (properties_of (take (length (words others.now) - 1) (words others.now))) }
 {
     let properties = properties_of(alloc, without_last(others))?;
     Ok(Properties::from_vec(properties))

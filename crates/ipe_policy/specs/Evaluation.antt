@@ -64,4 +64,5 @@ decision items op context = decided (first_match items op context)
   where
     decided : Option (ℕ × RuleParts) → Option Found
     decided (Some rule) = Some (record { action = rule.1.action; which = which.TheVariants.Rule rule.0 })
-    decided None = first_default which.TheVariants.OpDefault (op_defaults op items) (first_default which.TheVariants.GlobalDefault (global_defaults items) None)
+    decided None = first_default which.TheVariants.OpDefault (op_defaults op items)
+        (first_default which.TheVariants.GlobalDefault (global_defaults items) None)

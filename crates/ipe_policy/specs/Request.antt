@@ -22,7 +22,8 @@ is_exec prot = (prot / 4) % 2 == 1
 abbrev pub evaluated_op : request.Request → Option op.Op
 evaluated_op request.TheVariants.ExecCheck = Some op.TheVariants.Execute
 evaluated_op (request.TheVariants.Mmap prot) = if is_exec prot then Some op.TheVariants.Execute else None
-evaluated_op (request.TheVariants.Mprotect was_exec prot) = if not was_exec && is_exec prot then Some op.TheVariants.Execute else None
+evaluated_op (request.TheVariants.Mprotect was_exec prot) =
+    if not was_exec && is_exec prot then Some op.TheVariants.Execute else None
 evaluated_op (request.TheVariants.KernelRead kind) = Some (kind_op kind)
 evaluated_op (request.TheVariants.KernelLoad kind) = Some (kind_op kind)
 

@@ -79,7 +79,9 @@ header_text name version = codes "policy_name=" ++ name ++ codes " policy_versio
 
 -- the whole text, each line with its line feed
 abbrev pub policy_text : PolicyParts → List ℕ
-policy_text policy = (header_text policy.name policy.version ++ 10 ∷ []) ++ flat_map (λ statement. statement_text statement ++ 10 ∷ []) policy.items
+policy_text policy =
+    (header_text policy.name policy.version ++ 10 ∷ [])
+    ++ flat_map (λ statement. statement_text statement ++ 10 ∷ []) policy.items
 
 -- how many words of eight bytes some bytes fill
 abbrev pub words_for : ℕ → ℕ

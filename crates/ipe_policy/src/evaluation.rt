@@ -178,8 +178,8 @@ pub fn rule_count(items: &[Statement]) -> usize
     count
 }
 
-/// What a policy decides of a file for an operation: the first rule of the operation whose properties all hold, else the
-/// operation's default, else the global default.
+/// What a policy decides of a file for an operation: the first rule of the operation whose properties all hold, else
+/// the operation's default, else the global default.
 pub fn decide(policy: &Policy, op: Op, context: &Context) -> Found
     ensures { decision policy.now.items op context.now ≡ Some result }
 {

@@ -67,7 +67,8 @@ fn append_properties(
     text: &mut Vec<u8>,
     props: &[Property],
 ) -> Result<(), AllocError>
-    ensures { OnOk result (text.new.items ≡ text.old.items ++ flat_map (λ property. 32 ∷ property_token property) props.now) }
+    ensures { OnOk result (text.new.items ≡ text.old.items
+        ++ flat_map (λ property. 32 ∷ property_token property) props.now) }
 {
     for property in props {
         text.extend_from_slice(b" ")?;
@@ -108,7 +109,8 @@ fn append_statements(
     text: &mut Vec<u8>,
     statements: &[Statement],
 ) -> Result<(), AllocError>
-    ensures { OnOk result (text.new.items ≡ text.old.items ++ flat_map (λ statement. statement_text statement ++ 10 ∷ []) statements.now) }
+    ensures { OnOk result (text.new.items ≡ text.old.items
+        ++ flat_map (λ statement. statement_text statement ++ 10 ∷ []) statements.now) }
 {
     for statement in statements {
         append_statement(alloc, text, statement)?;

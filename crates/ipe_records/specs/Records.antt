@@ -35,13 +35,15 @@ brief_of entry = record { name = entry.name; version = entry.version; digest = s
 abbrev pub activation_of : Policies → state.Loaded → List ℕ
 activation_of policies entry = activation_text (option_map brief_of (active_entry policies)) (brief_of entry)
 
--- the records of an act that was done and made a step: a load's; an update's, and behind it a change of the active policy where it is that one; an activation's; a change of enforce
+-- the records of an act that was done and made a step: a load's; an update's, and behind it a change of the active
+-- policy where it is that one; an activation's; a change of enforce
 abbrev pub act_records : Policies → Act → List (List ℕ)
 act_records policies (Load text) = load_text (brief_of (entry_of policies.next text)) ∷ []
 act_records policies (Update name text) =
     let entry = entry_of policies.next text in
     load_text (brief_of entry) ∷ (if is_active name policies then activation_of policies entry ∷ [] else [])
-act_records policies (Activate name wanted) = option_map_or (λ entry. activation_of policies entry ∷ []) (entry_named name policies.loaded) []
+act_records policies (Activate name wanted) =
+    option_map_or (λ entry. activation_of policies entry ∷ []) (entry_named name policies.loaded) []
 act_records policies (Delete name wanted) = []
 act_records policies (Enforce wanted) = enforce_text (is_true wanted) ∷ []
 act_records policies (SuccessAudit wanted) = []
@@ -70,15 +72,19 @@ access_by machine request subject object op statement =
 abbrev pub access_under : Machine → Request → Subject → Object → Context → Op → state.Loaded → Option (List ℕ)
 access_under machine request subject object context op entry =
     if (ruling_by machine entry op context).record_due then
-    option_and_then (λ (found : Found). option_map (access_by machine request subject object op) (deciding (parts_of entry.serial (policy_in entry.text).items) op found))
+    option_and_then (λ (found : Found).
+    option_map (access_by machine request subject object op)
+    (deciding (parts_of entry.serial (policy_in entry.text).items) op found))
     (decision (policy_in entry.text).items op context)
     else None
 
 -- the same of an access for an operation, if a policy is active
-abbrev pub access_for : Machine → Request → Subject → Object → Context → Option Op → Option state.Loaded → Option (List ℕ)
+abbrev pub access_for : Machine → Request → Subject → Object → Context → Option Op → Option state.Loaded
+    → Option (List ℕ)
 access_for machine request subject object context None entry = None
 access_for machine request subject object context (Some op) None = None
-access_for machine request subject object context (Some op) (Some entry) = access_under machine request subject object context op entry
+access_for machine request subject object context (Some op) (Some entry) =
+    access_under machine request subject object context op entry
 
 -- the record of an access, where one is due
 abbrev pub access_of : Machine → Request → Subject → Object → Context → Option (List ℕ)

@@ -14,7 +14,8 @@ use Rattle.ipe_registry.specs.declared.change.Plan.TheVariants as plan
 abbrev pub step_applied : Policies → Step → Policies
 step_applied policies (Add entry) = added policies entry
 step_applied policies (Replace place entry raises) =
-    let with_entry : Policies = record policies { loaded = slice_set policies.loaded place entry; next = policies.next + 1 } in
+    let with_entry : Policies =
+    record policies { loaded = slice_set policies.loaded place entry; next = policies.next + 1 } in
     if raises then later with_entry else with_entry
 step_applied policies (Activate name) = later (record policies { active = Some name })
 step_applied policies (Remove place) = record policies { loaded = remove policies.loaded place }
@@ -64,7 +65,8 @@ change_raises change = step_raises change.step
 -- there is room for the step
 abbrev pub StepFits : Policies → Step → Type 0
 StepFits policies (Add entry) = (length policies.loaded < most_loaded) × (policies.next < 2 ^ 63)
-StepFits policies (Replace place entry raises) = (place < length policies.loaded) × (policies.next < 2 ^ 63) × (IsTrue raises → policies.epoch < last_epoch)
+StepFits policies (Replace place entry raises) =
+    (place < length policies.loaded) × (policies.next < 2 ^ 63) × (IsTrue raises → policies.epoch < last_epoch)
 StepFits policies (Activate name) = policies.epoch < last_epoch
 StepFits policies (Remove place) = place < length policies.loaded
 StepFits policies (Enforce on) = policies.epoch < last_epoch
@@ -77,7 +79,8 @@ Fits policies change = StepFits policies change.step
 -- a plan of a command says what the command is answered, and a change makes what the command leaves
 abbrev pub IsPlan : Verdicts → Policies → Command → Plan → Type 0
 IsPlan verdicts policies command (plan.Refused refusal) = answer verdicts policies command ≡ Err refusal
-IsPlan verdicts policies command (plan.Same done) = (answer verdicts policies command ≡ Ok done) × (after verdicts policies command ≡ policies)
+IsPlan verdicts policies command (plan.Same done) =
+    (answer verdicts policies command ≡ Ok done) × (after verdicts policies command ≡ policies)
 IsPlan verdicts policies command (plan.Ready change) =
     (answer verdicts policies command ≡ Ok (change_done change))
     × (after verdicts policies command ≡ applied policies change)

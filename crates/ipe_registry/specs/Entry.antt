@@ -11,7 +11,8 @@ use Rattle.ipe_registry.specs.declared.entry.Entry.TheInside.{Inside}
 abbrev pub loaded_of : Inside → Loaded
 loaded_of entry = record { name = entry.name; version = entry.version; text = entry.text; serial = entry.serial }
 
--- the digest is the text's, and the policy is the one that the text reads as, with the entry's name and version; its image fits
+-- the digest is the text's, and the policy is the one that the text reads as, with the entry's name and version; its
+-- image fits
 pub record IsEntry (entry : Inside) : Type 0 where
   pub digest : entry.digest ≡ sha256 entry.text
   pub policy : reading entry.text ≡ Ok entry.policy

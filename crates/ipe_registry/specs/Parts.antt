@@ -24,7 +24,8 @@ use Rattle.ipe_registry.specs.Change.{applied, change_done, Fits}
 -- the policy that was read, if its image fits
 abbrev pub read_as : Result PolicyParts BadText → Result PolicyParts Refusal
 read_as (Err fault) = Err (BadPolicy fault)
-read_as (Ok policy) = if nat_lt most_words (words_of_image policy.items) then Err (TooWide (words_of_image policy.items)) else Ok policy
+read_as (Ok policy) =
+    if nat_lt most_words (words_of_image policy.items) then Err (TooWide (words_of_image policy.items)) else Ok policy
 
 -- the policy that a text brings, or the first refusal that the text alone meets
 abbrev pub taken_of : Verdicts → List ℕ → Result PolicyParts Refusal
@@ -36,7 +37,9 @@ taken_of verdicts text =
 
 -- a policy, whose image fits, and a digest that a text brings
 abbrev pub Brings : Verdicts → List ℕ → PolicyParts → List ℕ → Type 0
-Brings verdicts text policy digest = (taken_of verdicts text ≡ Ok policy) × (reading text ≡ Ok policy) × (digest ≡ sha256 text) × (words_of_image policy.items ≤ most_words)
+Brings verdicts text policy digest =
+    (taken_of verdicts text ≡ Ok policy) × (reading text ≡ Ok policy) × (digest ≡ sha256 text)
+    × (words_of_image policy.items ≤ most_words)
 
 -- what `taken` says of a text
 abbrev pub IsTaken : Verdicts → List ℕ → Result (PolicyParts × List ℕ) Refusal → Type 0
@@ -52,7 +55,8 @@ load_by policies policy =
 
 -- the version of the entry at a place
 abbrev pub version_at : List policies.Loaded → ℕ → Version
-version_at loaded place = option_map_or (λ (entry : policies.Loaded). entry.version) (slice_get loaded place) no_policy.version
+version_at loaded place =
+    option_map_or (λ (entry : policies.Loaded). entry.version) (slice_get loaded place) no_policy.version
 
 -- the answer to an update of a name at this version that brings this policy
 abbrev pub update_by : Policies → List ℕ → Version → PolicyParts → Result Done Refusal
@@ -65,13 +69,15 @@ update_by policies name present policy =
 -- the version that stands against this one
 abbrev pub standing_against : Option policies.Loaded → Version → Option Version
 standing_against None offered = None
-standing_against (Some active) offered = if nat_lt (packed offered) (packed active.version) then Some active.version else None
+standing_against (Some active) offered =
+    if nat_lt (packed offered) (packed active.version) then Some active.version else None
 
 -- the answer to an activation of a loaded name at this version
 abbrev pub activation_by : Policies → List ℕ → Version → Result Done Refusal
 activation_by policies name offered =
     if is_active name policies then Ok AlreadyActive
-    else unless_stale (active_entry policies) offered (if policies.epoch == last_epoch then Err EpochFull else Ok Activated)
+    else unless_stale (active_entry policies) offered
+    (if policies.epoch == last_epoch then Err EpochFull else Ok Activated)
 
 -- a plan of an act that is answered so
 abbrev pub IsPlanOf : Policies → Act → Result Done Refusal → Plan → Type 0

@@ -5,7 +5,8 @@ use ipe_policy::{Name, Policy, Version};
 use std::alloc::{AllocError, Global};
 use std::marker::Model;
 
-/// A loaded policy: its text, the SHA-256 of the text, what the text reads as, and the serial that its load or update took.
+/// A loaded policy: its text, the SHA-256 of the text, what the text reads as, and the serial that its load or update
+/// took.
 #[derive(Debug, Drop)]
 pub struct Entry {
     pub name: Name,

@@ -75,8 +75,8 @@ fn ready(step: Step) -> Plan
 }
 
 impl Registry {
-    /// What a command comes to on the policies as they are. Nothing is changed. Memory may run out at a command of one who
-    /// may administer.
+    /// What a command comes to on the policies as they are. Nothing is changed. Memory may run out at a command of one
+    /// who may administer.
     #[tactic(auto, using(crate::proofs::Plans::planned, crate::proofs::Plans::planned_ok))]
     pub fn plan<S: Signer>(
         &self,
@@ -109,7 +109,8 @@ impl Registry {
         text: &Text,
     ) -> Result<Plan, AllocError>
         requires { self.now.next < 2 ^ 63 }
-        ensures { IfOk result (IsPlanOf self.now (Act.Load text.now) (load_answer (S.verdict_of signer.now) self.now text.now)) }
+        ensures { IfOk result (IsPlanOf self.now (Act.Load text.now)
+            (load_answer (S.verdict_of signer.now) self.now text.now)) }
     {
         match taken(alloc, signer, text.as_slice())? {
             Ok(brought) => {
@@ -153,7 +154,8 @@ impl Registry {
         text: &Text,
     ) -> Result<Plan, AllocError>
         requires { self.now.next < 2 ^ 63 }
-        ensures { IfOk result (IsPlanOf self.now (Act.Update name.now text.now) (update_answer (S.verdict_of signer.now) self.now name.now text.now)) }
+        ensures { IfOk result (IsPlanOf self.now (Act.Update name.now text.now)
+            (update_answer (S.verdict_of signer.now) self.now name.now text.now)) }
     {
         let Some(place) = place_of(&self.entries, name) else {
             return Ok(Plan::Refused(Refusal::NoEntry));
@@ -183,7 +185,8 @@ impl Registry {
         requires digest { digest ≡ sha256 text.now }
         requires policy { reading text.now ≡ Ok policy }
         requires fits { words_of_image policy.items ≤ 4096 }
-        ensures { IfOk result (IsPlanOf self.now (Act.Update name.now text.now) (update_by self.now name.now (version_at self.now.loaded place) policy)) }
+        ensures { IfOk result (IsPlanOf self.now (Act.Update name.now text.now)
+            (update_by self.now name.now (version_at self.now.loaded place) policy)) }
     {
         if policy.name.as_slice() != name.as_slice() {
             return Ok(Plan::Refused(Refusal::OtherName));
@@ -207,7 +210,8 @@ impl Registry {
 
     #[tactic(auto, using(crate::proofs::Plans::activation_found))]
     fn plan_activation(&self, name: &Name, wanted: Value) -> Result<Plan, AllocError>
-        ensures { IfOk result (IsPlanOf self.now (Act.Activate name.now wanted) (activate_answer self.now name.now wanted)) }
+        ensures { IfOk result (IsPlanOf self.now (Act.Activate name.now wanted)
+            (activate_answer self.now name.now wanted)) }
     {
         if wanted != Value::True {
             return Ok(Plan::Refused(Refusal::BadValue));
@@ -220,7 +224,8 @@ impl Registry {
 
     // The rest of an activation, of a name that is loaded at this version.
     fn plan_choice(&self, name: &Name, offered: Version) -> Result<Plan, AllocError>
-        ensures { IfOk result (IsPlanOf self.now (Act.Activate name.now Value.True) (activation_by self.now name.now offered)) }
+        ensures { IfOk result (IsPlanOf self.now (Act.Activate name.now Value.True)
+            (activation_by self.now name.now offered)) }
     {
         if self.is_active(name) {
             return Ok(Plan::Same(Done::AlreadyActive));

@@ -26,7 +26,14 @@ impl Model for Registry {
 
     ghost Value = { Policies };
 
-    ghost view = { λ r. record { loaded = r.entries.items; active = r.active; enforce = r.enforce; success = r.success; epoch = r.epoch; next = r.next } };
+    ghost view = { λ r. record {
+      loaded = r.entries.items;
+      active = r.active;
+      enforce = r.enforce;
+      success = r.success;
+      epoch = r.epoch;
+      next = r.next;
+    } };
 
     ghost invariant = { λ r. (length r.entries.items ≤ 32) × (32 ≤ vec_capacity r.entries) };
 }

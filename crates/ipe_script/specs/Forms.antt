@@ -53,7 +53,8 @@ most_lines = 1048576
 
 -- `phase` and `end`
 unfoldable pub lone_form : List ℕ → Option Form
-lone_form key = if is_text (codes "phase") key then Some form.Phase else when (is_text (codes "end") key) (Some form.End)
+lone_form key =
+    if is_text (codes "phase") key then Some form.Phase else when (is_text (codes "end") key) (Some form.End)
 
 -- `text ID N`
 unfoldable pub text_form : List ℕ → List ℕ → List ℕ → Option Form
@@ -64,7 +65,8 @@ text_form key id lines =
 -- `file PATH boot DEV INO ID`
 unfoldable pub file_form : List ℕ → List ℕ → List ℕ → List ℕ → List ℕ → List ℕ → Option Form
 file_form key path kind dev ino text =
-    when (is_text (codes "file") key && is_text (codes "boot") kind && is_path path && is_dev_name dev && is_dev_name text)
+    when (is_text (codes "file") key && is_text (codes "boot") kind && is_path path && is_dev_name dev
+    && is_dev_name text)
     (option_map (λ number. form.File path dev number text) (number_of 18446744073709551615 ino))
 
 -- the purpose of a mark, by its word
@@ -106,7 +108,9 @@ marked_of kind word =
 unfoldable pub mark_form : List ℕ → List ℕ → List ℕ → List ℕ → List ℕ → Option Form
 mark_form key purpose verdict kind word =
     when (is_text (codes "mark") key)
-    (option_and_then (λ what. option_and_then (λ says. option_map (form.Mark what says) (marked_of kind word)) (verdict_of verdict)) (purpose_of purpose))
+    (option_and_then (λ what.
+    option_and_then (λ says. option_map (form.Mark what says) (marked_of kind word)) (verdict_of verdict))
+    (purpose_of purpose))
 
 -- a node's path: 1 to 320 visible bytes; whether there is such a node is told when the line runs
 abbrev pub is_node : List ℕ → Bool
@@ -114,14 +118,16 @@ is_node word = is_word 1 320 is_visible word
 
 -- whether an administrator's line is of one who has the right
 unfoldable pub right_of : List ℕ → Option Bool
-right_of who = if is_text (codes "admin") who then Some true else if is_text (codes "guest") who then Some false else None
+right_of who =
+    if is_text (codes "admin") who then Some true else if is_text (codes "guest") who then Some false else None
 
 -- what is written: the text of an id, a word of 1 to 64 visible bytes, or a dash for no bytes, or 2 to 8,192 digits
 unfoldable pub written_of : List ℕ → List ℕ → Option Written
 written_of kind word =
     if is_text (codes "text") kind then when (is_dev_name word) (Some (written.Text word))
     else if is_text (codes "echo") kind then when (is_word 1 64 is_visible word) (Some (written.Echo word))
-    else if is_text (codes "hex") kind then (if is_text (codes "-") word then Some (written.Hex []) else option_map written.Hex (hex_of 2 8192 word))
+    else if is_text (codes "hex") kind
+    then (if is_text (codes "-") word then Some (written.Hex []) else option_map written.Hex (hex_of 2 8192 word))
     else None
 
 -- `admin write NODE CONTENT` or `guest write NODE CONTENT`
@@ -132,7 +138,8 @@ write_form who verb node kind word =
 
 -- `admin read NODE`
 unfoldable pub read_form : List ℕ → List ℕ → List ℕ → Option Form
-read_form who verb node = when (is_text (codes "admin") who && is_text (codes "read") verb && is_node node) (Some (form.Read node))
+read_form who verb node =
+    when (is_text (codes "admin") who && is_text (codes "read") verb && is_node node) (Some (form.Read node))
 
 -- the greatest number in a hook line: a process id, or the protection of a mapping
 abbrev pub most_hook_number : ℕ
@@ -160,7 +167,9 @@ path_or_none word = if is_text (codes "-") word then Some None else when (is_pat
 -- the hook of a request by the task of a process id and a name, on the file of a path or on none
 unfoldable pub hook_of : Request → List ℕ → List ℕ → Option (List ℕ) → Option Form
 hook_of asked pid comm path =
-    when (is_comm comm) (option_map (λ number. form.Hook asked (record { pid = number; comm = comm }) path) (number_of most_hook_number pid))
+    when (is_comm comm)
+    (option_map (λ number. form.Hook asked (record { pid = number; comm = comm }) path)
+    (number_of most_hook_number pid))
 
 -- a line of worker 1 with this hook
 abbrev pub is_hook_line : List ℕ → List ℕ → List ℕ → Bool
@@ -181,7 +190,9 @@ mmap_form who hook pid comm prot path =
 unfoldable pub mprotect_form : List ℕ → List ℕ → List ℕ → List ℕ → List ℕ → List ℕ → List ℕ → Option Form
 mprotect_form who hook pid comm was prot path =
     when (is_hook_line (codes "mprotect") who hook)
-    (option_and_then (λ was_exec. option_and_then (λ bits. option_and_then (λ file. hook_of (request.Mprotect was_exec bits) pid comm file)
+    (option_and_then (λ was_exec.
+    option_and_then (λ bits.
+    option_and_then (λ file. hook_of (request.Mprotect was_exec bits) pid comm file)
     (path_or_none path)) (number_of most_hook_number prot)) (was_of was))
 
 -- `w1 read PID COMM KIND PATH`
@@ -193,7 +204,8 @@ kernel_read_form who hook pid comm kind path =
 -- `w1 load PID COMM KIND`
 unfoldable pub kernel_load_form : List ℕ → List ℕ → List ℕ → List ℕ → List ℕ → Option Form
 kernel_load_form who hook pid comm kind =
-    when (is_hook_line (codes "load") who hook) (option_and_then (λ named. hook_of (request.KernelLoad named) pid comm None) (kind_of kind))
+    when (is_hook_line (codes "load") who hook)
+    (option_and_then (λ named. hook_of (request.KernelLoad named) pid comm None) (kind_of kind))
 
 -- the form of a line behind the first two
 abbrev pub form_of_words : List (List ℕ) → Option Form
@@ -204,7 +216,8 @@ form_of_words (one ∷ two ∷ three ∷ four ∷ five ∷ []) =
     (option_or (write_form one two three four five)
     (option_or (exec_form one two three four five) (kernel_load_form one two three four five)))
 form_of_words (one ∷ two ∷ three ∷ four ∷ five ∷ six ∷ []) =
-    option_or (file_form one two three four five six) (option_or (mmap_form one two three four five six) (kernel_read_form one two three four five six))
+    option_or (file_form one two three four five six)
+    (option_or (mmap_form one two three four five six) (kernel_read_form one two three four five six))
 form_of_words (who ∷ hook ∷ pid ∷ comm ∷ was ∷ prot ∷ path ∷ []) = mprotect_form who hook pid comm was prot path
 form_of_words other = None
 

@@ -25,7 +25,8 @@ use Rattle.ipe_script.specs.declared.form.Form.TheVariants as form
 use Rattle.ipe_script.specs.Script.{Script, no_script, bytes_of, ids_of, paths_of, size_at}
 use Rattle.ipe_script.specs.Forms.{form_of, when}
 
--- how far into the file the lines so far have come. Within a text are its id, its bytes so far, and how many lines of it are to come; within a phase, whether a hook line stands in it
+-- how far into the file the lines so far have come. Within a text are its id, its bytes so far, and how many lines of
+-- it are to come; within a phase, whether a hook line stands in it
 pub data Stage : Type 0 where
   at_start : Stage
   at_workers : Stage
@@ -140,16 +141,21 @@ most_reads = 67108864
 -- a text that is declared anew
 abbrev pub declare_text : Progress → List ℕ → ℕ → Option Progress
 declare_text progress id lines =
-    when (may_declare_text progress.stage && is_none (text_place progress.script id) && nat_lt (length progress.script.texts) most_texts)
+    when (may_declare_text progress.stage && is_none (text_place progress.script id)
+    && nat_lt (length progress.script.texts) most_texts)
     (Some (open_text progress id [] lines))
 
 -- a file that is declared anew, of a text that is there
 abbrev pub declare_file : Progress → List ℕ → List ℕ → ℕ → List ℕ → Option Progress
 declare_file progress path dev ino text =
-    when (may_declare_file progress.stage && is_none (file_place progress.script path) && nat_lt (length progress.script.files) most_files)
+    when (may_declare_file progress.stage && is_none (file_place progress.script path)
+    && nat_lt (length progress.script.files) most_files)
     (option_map (λ place. record progress {
       stage = in_files;
-      script = record progress.script { files = progress.script.files ++ (record { path = path; dev = dev; ino = ino; text = place }) ∷ [] };
+      script = record progress.script {
+        files = progress.script.files
+            ++ (record { path = path; dev = dev; ino = ino; text = place }) ∷ [];
+      };
     }) (text_place progress.script text))
 
 -- the digest of a mark, of a text that is there or told by its digits
@@ -163,14 +169,20 @@ add_mark progress purpose verdict marked =
     when (may_mark progress.stage && nat_lt (length progress.script.marks) most_marks)
     (option_map (λ digest. record progress {
       stage = in_marks;
-      script = record progress.script { marks = progress.script.marks ++ (record { purpose = purpose; verdict = verdict; digest = digest }) ∷ [] };
+      script = record progress.script {
+        marks = progress.script.marks
+            ++ (record { purpose = purpose; verdict = verdict; digest = digest }) ∷ [];
+      };
     }) (marked_at progress.script marked))
 
 -- a phase begins, without lines so far
 abbrev pub begin_phase : Progress → Option Progress
 begin_phase progress =
     when (may_begin_phase progress.stage && nat_lt (length progress.script.phases) most_phases)
-    (Some (record progress { stage = in_phase false; script = record progress.script { phases = progress.script.phases ++ [] ∷ [] } }))
+    (Some (record progress {
+      stage = in_phase false;
+      script = record progress.script { phases = progress.script.phases ++ [] ∷ [] };
+    }))
 
 -- what is written, of a text that is there
 abbrev pub written_at : Script → Written → Option WriteContent
@@ -191,7 +203,8 @@ add_write progress number may node written =
     (option_and_then (λ content.
     let work = text_work progress.script content in
     when (nat_lt progress.commands most_commands && nat_le (progress.work + work) most_work)
-    (Some (with_line (record progress { commands = progress.commands + 1; work = progress.work + work }) false number (Write may node content))))
+    (Some (with_line (record progress { commands = progress.commands + 1; work = progress.work + work }) false number
+    (Write may node content))))
     (written_at progress.script written))
 
 -- a node whose bytes are a policy's text, told by the end of its path
@@ -210,8 +223,12 @@ read_size script node = if gives_text node then longest script.texts else 0
 -- a read
 abbrev pub add_read : Progress → ℕ → List ℕ → Option Progress
 add_read progress number node =
-    when (may_command progress.stage && nat_lt progress.commands most_commands && nat_le (progress.reads + read_size progress.script node) most_reads)
-    (Some (with_line (record progress { commands = progress.commands + 1; reads = progress.reads + read_size progress.script node }) false number (Read node)))
+    when (may_command progress.stage && nat_lt progress.commands most_commands
+    && nat_le (progress.reads + read_size progress.script node) most_reads)
+    (Some (with_line (record progress {
+      commands = progress.commands + 1;
+      reads = progress.reads + read_size progress.script node;
+    }) false number (Read node)))
 
 -- the size of the file at a place
 abbrev pub size_of : Script → ℕ → ℕ
@@ -242,7 +259,8 @@ add_hook progress number asked subject path =
     (option_and_then (λ file.
     let work = work_of progress.script asked file in
     when (nat_lt progress.hooks most_hooks && nat_le (progress.work + work) most_work)
-    (Some (with_line (record progress { hooks = progress.hooks + 1; work = progress.work + work }) true number (Hook asked subject file))))
+    (Some (with_line (record progress { hooks = progress.hooks + 1; work = progress.work + work }) true number
+    (Hook asked subject file))))
     (file_named progress.script path))
 
 -- the file's last line
@@ -275,8 +293,10 @@ raw_line other progress line = None
 
 -- the lines so far with one more
 abbrev pub at_stage : Stage → Progress → ℕ → List ℕ → Option Progress
-at_stage at_start progress number line = when (is_text (codes "ipe-requests 1") line) (Some (record progress { stage = at_workers }))
-at_stage at_workers progress number line = when (is_text (codes "workers 1") line) (Some (record progress { stage = in_texts }))
+at_stage at_start progress number line =
+    when (is_text (codes "ipe-requests 1") line) (Some (record progress { stage = at_workers }))
+at_stage at_workers progress number line =
+    when (is_text (codes "workers 1") line) (Some (record progress { stage = in_texts }))
 at_stage (in_text id bytes left) progress number line = Some (with_raw progress id bytes left line)
 at_stage in_texts progress number line = with_formed progress number line
 at_stage in_files progress number line = with_formed progress number line
@@ -295,12 +315,16 @@ is_ended other = false
 abbrev pub is_line_feed : ℕ → Bool
 is_line_feed byte = byte == 10
 
--- what the pieces between line feeds ask, behind the lines so far, of which there are `number`; or the number of the first line that may not stand where it stands. What follows the last line feed is no line, and must be nothing, behind the line `end`
+-- what the pieces between line feeds ask, behind the lines so far, of which there are `number`; or the number of the
+-- first line that may not stand where it stands. What follows the last line feed is no line, and must be nothing,
+-- behind the line `end`
 abbrev pub requests_from : Progress → ℕ → List (List ℕ) → Result Script ℕ
 requests_from progress number [] = Err (number + 1)
-requests_from progress number (rest ∷ []) = if is_ended progress.stage && (length rest == 0) then Ok progress.script else Err (number + 1)
+requests_from progress number (rest ∷ []) =
+    if is_ended progress.stage && (length rest == 0) then Ok progress.script else Err (number + 1)
 requests_from progress number (line ∷ piece ∷ pieces) =
-    option_map_or (λ more. requests_from more (number + 1) (piece ∷ pieces)) (next progress (number + 1) line) (Err (number + 1))
+    option_map_or (λ more. requests_from more (number + 1) (piece ∷ pieces))
+    (next progress (number + 1) line) (Err (number + 1))
 
 -- what a request file asks, or the number of its first bad line
 unfoldable pub requests_of : List ℕ → Result Script ℕ

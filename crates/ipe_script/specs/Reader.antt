@@ -18,7 +18,12 @@ phases_at stage phases lines = if may_hook stage then phases ++ lines ∷ [] els
 abbrev pub progress_of : Inside → Progress
 progress_of reader = record {
   stage = stage_of reader.stage;
-  script = record { texts = reader.texts; files = reader.files; marks = reader.marks.items; phases = phases_at (stage_of reader.stage) reader.phases.items reader.lines.items };
+  script = record {
+    texts = reader.texts;
+    files = reader.files;
+    marks = reader.marks.items;
+    phases = phases_at (stage_of reader.stage) reader.phases.items reader.lines.items;
+  };
   commands = reader.commands;
   hooks = reader.hooks;
   work = reader.work;

@@ -34,7 +34,8 @@ text_at texts place = option_map_or (λ (text : TextLine). text.bytes) (slice_ge
 
 -- the size of the file at a place, whose bytes are one of the texts
 abbrev pub size_at : List FileLine → List TextLine → ℕ → ℕ
-size_at files texts place = option_map_or (λ (file : FileLine). length (text_at texts file.text)) (slice_get files place) 0
+size_at files texts place =
+    option_map_or (λ (file : FileLine). length (text_at texts file.text)) (slice_get files place) 0
 
 -- the bytes of the text at a place
 abbrev pub bytes_of : Script → ℕ → List ℕ

@@ -51,7 +51,8 @@ pub struct MarkLine {
     pub digest: MarkDigest,
 }
 
-/// What is written to a node: a declared text, named by its place; a word, behind which a line feed is written; or bytes.
+/// What is written to a node: a declared text, named by its place; a word, behind which a line feed is written; or
+/// bytes.
 #[derive(Debug, Drop)]
 pub enum WriteContent {
     Text(usize),
@@ -59,8 +60,8 @@ pub enum WriteContent {
     Hex(Bytes),
 }
 
-/// What a line of a phase asks: a write to a node by one who has the administrator's right, or hasn't (`may`), a read of
-/// a node by the administrator, or a hook. A file is named by its place among the declared ones.
+/// What a line of a phase asks: a write to a node by one who has the administrator's right, or hasn't (`may`), a read
+/// of a node by the administrator, or a hook. A file is named by its place among the declared ones.
 #[derive(Debug, Drop)]
 pub enum Task {
     Write {
@@ -114,5 +115,10 @@ impl Model for Requests {
 
     ghost Value = { Script };
 
-    ghost view = { λ s. record { texts = s.texts.items; files = s.files.items; marks = s.marks.items; phases = s.phases.items } };
+    ghost view = { λ s. record {
+      texts = s.texts.items;
+      files = s.files.items;
+      marks = s.marks.items;
+      phases = s.phases.items;
+    } };
 }

@@ -24,4 +24,5 @@ is_about purpose digest mark = same_purpose purpose mark.purpose && is_text dige
 
 -- the last mark of a purpose and digest decides; without one nothing is known
 abbrev pub last_verdict : List Mark → Purpose → List ℕ → Verdict
-last_verdict marks purpose digest = option_map_or (λ (mark : Mark). mark.verdict) (find (is_about purpose digest) (reverse marks)) Unknown
+last_verdict marks purpose digest =
+    option_map_or (λ (mark : Mark). mark.verdict) (find (is_about purpose digest) (reverse marks)) Unknown

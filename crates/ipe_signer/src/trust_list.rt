@@ -43,7 +43,8 @@ impl Marks {
     }
 }
 
-/// A signer that is a list of marks: the last one of a purpose and digest decides, and without one the verdict is Unknown.
+/// A signer that is a list of marks: the last one of a purpose and digest decides, and without one the verdict is
+/// Unknown.
 #[derive(Debug, Drop)]
 pub struct TrustList {
     marks: Marks,

@@ -37,7 +37,8 @@ told_text (Some bytes) = codes " bytes=" ++ bytes_text bytes
 
 -- a read
 abbrev pub read_text : ℕ → ℤ → ℕ → Option (List ℕ) → List ℕ
-read_text line code epoch bytes = acted_text line (codes " admin") code ++ codes " epoch=" ++ decimal epoch ++ told_text bytes
+read_text line code epoch bytes =
+    acted_text line (codes " admin") code ++ codes " epoch=" ++ decimal epoch ++ told_text bytes
 
 -- the place of a claim, or dashes where there was none
 abbrev pub place_text : Option Place → List ℕ
@@ -58,7 +59,8 @@ by_text (Some which.GlobalDefault) = codes " by=global"
 
 -- a hook of a worker
 abbrev pub hook_text : ℕ → ℕ → ℤ → Option Place → Option ℕ → Option Which → List ℕ
-hook_text line worker code place serial by = acted_text line (codes " w" ++ decimal worker) code ++ place_text place ++ serial_text serial ++ by_text by
+hook_text line worker code place serial by =
+    acted_text line (codes " w" ++ decimal worker) code ++ place_text place ++ serial_text serial ++ by_text by
 
 -- the record of an access, where one is due
 abbrev pub access_line : Option (List ℕ) → List ℕ
@@ -67,6 +69,8 @@ access_line (Some record_line) = line_text record_line
 
 -- an entry's line, with its record lines behind it
 abbrev pub entry_text : Entry → List ℕ
-entry_text (entry.Write line may code epoch records) = line_text (write_text line may code epoch) ++ flat_map line_text records
+entry_text (entry.Write line may code epoch records) =
+    line_text (write_text line may code epoch) ++ flat_map line_text records
 entry_text (entry.Read line code epoch bytes) = line_text (read_text line code epoch bytes)
-entry_text (entry.Hook line worker code place serial by access) = line_text (hook_text line worker code place serial by) ++ access_line access
+entry_text (entry.Hook line worker code place serial by access) =
+    line_text (hook_text line worker code place serial by) ++ access_line access

@@ -3,7 +3,8 @@ use Rattle.std.specs.Prelude.{ℕ, ◌-◌, Bool, ◌||◌, ◌&&◌, nat_le, na
 use Rattle.std.specs.List.{list_any}
 use Rattle.ipe_words.specs.Count.{counted}
 
--- a source: what is left, the most that a call gives, the numbers of the calls that fail, the calls and the faults so far
+-- a source: what is left, the most that a call gives, the numbers of the calls that fail, the calls and the faults so
+-- far
 pub record Supply : Type 0 where
   pub left : List ℕ
   pub piece : ℕ
@@ -31,7 +32,8 @@ read_fails supply = is_planned supply.plan (counted supply.calls)
 -- the next write of this piece fails: it is planned to, or there is no room for a piece that isn't empty
 abbrev pub write_fails : Store → List ℕ → Bool
 write_fails store offered =
-    is_planned store.plan (counted store.calls) || (nat_le store.room (length store.written) && nat_lt 0 (length offered))
+    is_planned store.plan (counted store.calls)
+    || (nat_le store.room (length store.written) && nat_lt 0 (length offered))
 
 -- how many bytes the next read gives into a buffer of this length, unless it fails
 abbrev pub given_count : Supply → ℕ → ℕ

@@ -44,7 +44,8 @@ pub fn read_all<S: Source>(alloc: Global, src: &mut S, limit: u64) -> Result<Vec
     ensures all { IfOk result (λ bytes. TakesAll (S.remaining src.old) (S.remaining src.new) bytes.items) }
     ensures within { IfOk result (λ bytes. vec_len bytes ≤ limit) }
     ensures read_fault { IsErrOf result ReadAllError.ReadFault → Rose (S.faults src.old) (S.faults src.new) }
-    ensures too_long { IsErrOf result (ReadAllError.TooLong limit) → IfSome (S.remaining src.old) (λ left. limit < length left) }
+    ensures too_long { IsErrOf result (ReadAllError.TooLong limit)
+        → IfSome (S.remaining src.old) (λ left. limit < length left) }
     ensures limit_named { (other : ℕ) → IsErrOf result (ReadAllError.TooLong other) → other ≡ limit }
     ensures never_falls { S.faults src.old ≤ S.faults src.new }
 {

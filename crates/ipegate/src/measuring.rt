@@ -13,7 +13,8 @@ use std::alloc::{AllocError, Global};
 const MOST_FILE: u64 = 16_777_216;
 
 /// Reads a file from the source to its end, and writes one line, which tells its file digest for fs-verity with
-/// SHA-256, or that it has more than 16,777,216 bytes. A block has 1,024, 2,048 or 4,096 bytes, and the salt at most 32.
+/// SHA-256, or that it has more than 16,777,216 bytes. A block has 1,024, 2,048 or 4,096 bytes, and the salt at most
+/// 32.
 pub fn measure<S: Source, K: Sink>(
     alloc: Global,
     block_size: u32,
@@ -27,7 +28,8 @@ pub fn measure<S: Source, K: Sink>(
     ensures usage { result ≢ Status.Usage }
 
     // Done: the source was read to its end, and what was written tells the file digest of what was left.
-    ensures done_read { result ≡ Status.Done → IfSome (S.remaining source.old) (λ input. S.remaining source.new ≡ Some []) }
+    ensures done_read { result ≡ Status.Done
+        → IfSome (S.remaining source.old) (λ input. S.remaining source.new ≡ Some []) }
     ensures done { result ≡ Status.Done → IfSome (S.remaining source.old) (λ input.
         Writes (IsMeasured input block_size salt.now) (K.written sink.old) (K.written sink.new)) }
 

@@ -59,7 +59,8 @@ pub(crate) fn measure_by_words<S: Source, K: Sink>(
     ensures usage { (result ≡ Status.Usage) ↔ (measure_by block_size.now salt.now ≡ None) }
     ensures idle { result ≡ Status.Usage → (source.new ≡ source.old) × (sink.new ≡ sink.old) }
     ensures source_stays { reads_source (measure_by block_size.now salt.now) ≡ false → source.new ≡ source.old }
-    ensures done_read { result ≡ Status.Done → IfSome (S.remaining source.old) (λ input. S.remaining source.new ≡ Some []) }
+    ensures done_read { result ≡ Status.Done
+        → IfSome (S.remaining source.old) (λ input. S.remaining source.new ≡ Some []) }
     ensures done { result ≡ Status.Done → (held : Option Contents) →
         WritesDone (measure_by block_size.now salt.now)
         (S.remaining source.old) held (K.written sink.old) (K.written sink.new) }
