@@ -7,7 +7,7 @@ mod shape;
 mod tree;
 
 pub use hash_tree::Shape;
-pub use shape::layout;
+pub use shape::{is_block_size, layout};
 pub use tree::{Tree, build};
 
 #[cfg(test)]

@@ -5,6 +5,13 @@ ghost use Rattle.std.specs.Prelude.{◌≡◌, ◌<◌, ◌≤◌, IsTrue};
 
 use hash_tree::Shape;
 
+/// Whether blocks may have this size, in bytes: 512, 1,024, 2,048 or 4,096.
+pub fn is_block_size(size: u64) -> bool
+    ensures { result ≡ is_block_size size }
+{
+    size == 512 || size == 1024 || size == 2048 || size == 4096
+}
+
 /// The shape of the tree over this many blocks, 1 to 4,096, of 512, 1,024, 2,048 or 4,096 bytes each.
 pub fn layout(blocks: u64, block_size: u32) -> Shape
     requires some { 1 ≤ blocks }

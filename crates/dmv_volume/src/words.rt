@@ -6,6 +6,7 @@ ghost use Rattle.std.specs.Fmt.{decimal as decimal_text};
 ghost use Rattle.std.specs.List.{list_all};
 ghost use Rattle.std.specs.Prelude.{◌≡◌, ◌-◌, ◌≤◌, ◌&&◌, ℕ, IsTrue, Ok, nat_le, length, IfNone, IfOk, IfSome, []};
 
+use dmv_tree::is_block_size;
 use hex::FromHexError;
 use ipe_words::decimal;
 use std::alloc::{AllocError, Global};
@@ -57,12 +58,6 @@ pub(crate) fn block_size_of(word: &[u8]) -> Option<u32>
     } else {
         None
     }
-}
-
-fn is_block_size(size: u64) -> bool
-    ensures { result ≡ is_block_size size }
-{
-    size == 512 || size == 1024 || size == 2048 || size == 4096
 }
 
 // The number that a word says, where it is from `low` to `high`.

@@ -8,6 +8,7 @@ ghost use Rattle.std.specs.Prelude.{◌≤◌, length, IfSome, IsTrue};
 
 mod writing;
 
+use dmv_tree::is_block_size;
 use ipe_words::{Status, StdSink, StdSource, decimal};
 use std::env;
 use std::process::ExitCode;
@@ -34,13 +35,14 @@ fn words_of(rt: &HostRuntime) -> Option<(u32, Vec<u8>)>
     let (Some(size), Some(salt), None) = (words.next(), words.next(), words.next()) else {
         return None;
     };
-    let size = decimal(size.as_bytes(), 4096)? as u32;
+    let size = decimal(size.as_bytes(), 4096)?;
     let salt = match salt.as_str() {
         "-" => Vec::new(rt.alloc()),
+        "" => return None,
         digits => hex::decode(rt.alloc(), digits).ok()?,
     };
-    if matches!(size, 512 | 1024 | 2048 | 4096) && salt.len() <= 256 {
-        Some((size, salt))
+    if is_block_size(size) && salt.len() <= 256 {
+        Some((size as u32, salt))
     } else {
         None
     }

@@ -21,16 +21,6 @@ use thiserror::Error;
 /// The most words of an image.
 const MOST_WORDS: u64 = 4096;
 
-const OPERATIONS: [Op; 7] = [
-    Op::Execute,
-    Op::Firmware,
-    Op::Kmodule,
-    Op::KexecImage,
-    Op::KexecInitramfs,
-    Op::Policy,
-    Op::X509Cert,
-];
-
 /// Why a policy has no image.
 #[derive(Debug, Drop, Error)]
 pub enum CompileError {
@@ -94,7 +84,7 @@ fn append_defaults(image: &mut Vec<u64>, items: &[Statement]) -> Result<(), Allo
     ensures { OnOk result (image.new.items ≡ image.old.items
         ++ map (λ op. default_word (slice_get (op_defaults op items.now) 0)) operations) }
 {
-    for op in OPERATIONS {
+    for op in Op::ALL {
         image.push(default_word(op_default(items, op)))?;
     }
     Ok(())

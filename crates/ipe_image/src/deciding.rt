@@ -9,7 +9,7 @@ ghost use Rattle.ipe_image.specs.Image.{rule_record};
 ghost use Rattle.ipe_image.specs.Parts.{ImageParts};
 ghost use Rattle.ipe_image.specs.Reading.{image_in};
 
-use crate::head::{RuleHead, action_of, op_number};
+use crate::head::{RuleHead, action_of};
 use crate::property::all_hold;
 use crate::{Hit, WordReader};
 use arrayvec::ArrayVec;
@@ -62,7 +62,7 @@ fn matching_record<R: WordReader>(
         head ≡ told_of_rule number rule → MatchOption result (matches op context.now (number, rule) ≡ false)
         (λ words. (matches op context.now (number, rule) ≡ true) × (words.items ≡ rule_record number rule)) }
 {
-    if head.op != op_number(op) {
+    if head.op != op.number() {
         return None;
     }
     let record = record(reader, at, head.words);
@@ -102,7 +102,7 @@ fn default_of<R: WordReader>(reader: &mut R, op: Op) -> Found
     ensures found { (parts : ImageParts) → BeginsWithImage (R.words reader.old) parts →
         default_of parts op ≡ Some result }
 {
-    if let Some(action) = action_of(reader.word(OP_DEFAULTS + op_number(op))) {
+    if let Some(action) = action_of(reader.word(OP_DEFAULTS + op.number())) {
         return Found {
             action,
             which: Which::OpDefault,

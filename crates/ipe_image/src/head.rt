@@ -1,6 +1,6 @@
 ghost use Rattle.std.specs.Prelude.{◌≡◌, ◌≤◌, ◌<◌, ◌==◌, ℕ};
 ghost use Rattle.ipe_policy.specs.Spelling.{words_for};
-ghost use Rattle.ipe_policy.specs.Statement.{RuleParts, op_number};
+ghost use Rattle.ipe_policy.specs.Statement.{RuleParts};
 ghost use Rattle.ipe_policy.specs.declared.statement.Property.{Property};
 ghost use Rattle.ipe_image.specs.Image.{action_number, kind_number};
 ghost use Rattle.ipe_image.specs.Reading.{default_read};
@@ -25,22 +25,6 @@ pub(crate) fn action_of(number: u64) -> Option<Action>
         1 => Some(Action::Allow),
         2 => Some(Action::Deny),
         _ => None,
-    }
-}
-
-/// The place of an operation in their order.
-pub(crate) fn op_number(op: Op) -> u32
-    ensures number { result ≡ op_number op }
-    ensures below { result < 7 }
-{
-    match op {
-        Op::Execute => 0,
-        Op::Firmware => 1,
-        Op::Kmodule => 2,
-        Op::KexecImage => 3,
-        Op::KexecInitramfs => 4,
-        Op::Policy => 5,
-        Op::X509Cert => 6,
     }
 }
 

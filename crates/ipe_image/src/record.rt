@@ -8,7 +8,7 @@ ghost use Rattle.ipe_image.specs.Image.{action_number, property_image, records, 
 ghost use Rattle.ipe_image.specs.Packing.{byte_words};
 ghost use Rattle.ipe_image.specs.Reading.{fits_digest, fits_property, fits_rule, is_byte};
 
-use crate::head::{Kind, action_number, op_number};
+use crate::head::{Kind, action_number};
 use crate::packing::word_of;
 use arrayvec::ArrayVec;
 use ipe_policy::{Action, Digest, Op, Properties, Property, Statement};
@@ -96,7 +96,7 @@ fn rule_head(number: u32, op: Op, action: Action, properties: usize, words: usiz
         + 2 ^ 56 * words }
 {
     u64::from(number)
-        + 0x1_0000_0000 * u64::from(op_number(op))
+        + 0x1_0000_0000 * u64::from(op.number())
         + 0x100_0000_0000 * action_number(action)
         + 0x1_0000_0000_0000 * properties as u64
         + 0x100_0000_0000_0000 * words as u64

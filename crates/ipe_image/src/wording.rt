@@ -16,7 +16,7 @@ use crate::Hit;
 use crate::head::Kind;
 use crate::property::{PropertyWords, first_property};
 use arrayvec::ArrayVec;
-use ipe_policy::{Action, Op, Statement, Which, statement_text};
+use ipe_policy::{Action, Op, Statement, Which, statement_text, truth_word};
 use std::alloc::{AllocError, Global};
 
 // The first bytes of words, so many.
@@ -36,11 +36,7 @@ fn append_truth(text: &mut Vec<u8>, key: &[u8], wanted: bool) -> Result<(), Allo
     ensures { OnOk result (text.new.items ≡ text.old.items ++ (key.now ++ truth_word wanted)) }
 {
     text.extend_from_slice(key)?;
-    text.extend_from_slice(if wanted {
-        b"TRUE".as_slice()
-    } else {
-        b"FALSE".as_slice()
-    })
+    text.extend_from_slice(truth_word(wanted).as_bytes())
 }
 
 fn append_digest(

@@ -13,7 +13,8 @@ use Rattle.ipe_policy.specs.declared.statement.Statement.TheVariants.{Rule, OpDe
 use Rattle.ipe_policy.specs.Spelling.{action_token, op_token, property_token, statement_tokens}
 use Rattle.ipe_parse.specs.Tokens.{last_action, lone_action, op_of, properties_of, rule_of_line, statement_of}
 use Rattle.ipe_parse.specs.Printed.{IsPrintableProperty, IsPrintableStatement}
-use Rattle.ipe_parse.proofs.Values.{action_named-token, op_named-word, op_of-token, property_of-token}
+use Rattle.ipe_parse.proofs.Spells.{action_named-token, op_named-word}
+use Rattle.ipe_parse.proofs.Values.{op_of-token, property_of-token}
 
 -- the properties of a rule are read as themselves
 properties_of-tokens : (properties : List Property) → AllByRecursion IsPrintableProperty properties → properties_of (map property_token properties) ≡ Ok properties

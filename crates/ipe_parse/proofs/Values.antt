@@ -22,6 +22,7 @@ use Rattle.ipe_policy.specs.Version.{digits_onto, is_dot, part_of, version_of}
 use Rattle.ipe_policy.specs.Spelling.{action_token, digest_word, op_token, op_word, property_token, version_text}
 use Rattle.ipe_parse.specs.Tokens.{action_named, digest_of, hex_bytes, is_colon, op_named, op_of, property_of}
 use Rattle.ipe_parse.specs.Printed.{IsPrintableDigest, IsPrintableProperty, IsPrintableVersion}
+use Rattle.ipe_parse.proofs.Spells.{op_named-word}
 use Rattle.ipe_parse.proofs.Bytes.{after-at, all-weaker, before-at}
 
 -- ---- versions
@@ -125,21 +126,6 @@ property_of-token (FsverityDigest digest) h = rw (digest_of-word digest h)
 property_of-token (FsveritySignature true) h = refl
 property_of-token (FsveritySignature false) h = refl
 
--- an operation is read as itself
-pub op_named-word : (op : Op) → op_named (op_word op) ≡ Some op
-op_named-word Execute = refl
-op_named-word Firmware = refl
-op_named-word Kmodule = refl
-op_named-word KexecImage = refl
-op_named-word KexecInitramfs = refl
-op_named-word Policy = refl
-op_named-word X509Cert = refl
-
 -- an operation behind its key is read as itself
 pub op_of-token : (op : Op) → op_of (op_token op) ≡ Some op
 op_of-token op = op_named-word op
-
--- an action is read as itself
-pub action_named-token : (action : Action) → action_named (action_token action) ≡ Some action
-action_named-token Allow = refl
-action_named-token Deny = refl

@@ -1,5 +1,4 @@
 ghost use Rattle.std.specs.Prelude.{◌≡◌, ◌<◌, ◌++◌, ◌∷◌, [], false, OnOk};
-ghost use Rattle.ipe_policy.specs.Statement.{op_number};
 ghost use Rattle.ipe_parse.specs.Defaults.{Flags, IsOnce, first_missing, has_op_default, repeats_default};
 
 use crate::given::{Given, given_by};
@@ -14,13 +13,6 @@ pub(crate) struct Draft {
     pub(crate) global_given: bool,
     pub ghost flags: { Flags op_given global_given items.items },
     pub ghost once: { IsOnce items.items },
-}
-
-fn op_number(op: Op) -> usize
-    ensures number { result ≡ op_number op }
-    ensures few { result < 7 }
-{
-    op as usize
 }
 
 impl Draft {
@@ -38,7 +30,7 @@ impl Draft {
     fn has_op_default(&self, op: Op) -> bool
         ensures { result ≡ has_op_default op self.now.items.items }
     {
-        self.op_given[op_number(op)]
+        self.op_given[op.number() as usize]
     }
 
     /// Whether the statement gives a default that is given already.
@@ -61,7 +53,7 @@ impl Draft {
         self.items.push(statement)?;
         match given {
             Given::Nothing => {}
-            Given::OfOp(op) => self.op_given[op_number(op)] = true,
+            Given::OfOp(op) => self.op_given[op.number() as usize] = true,
             Given::Global => self.global_given = true,
         }
         Ok(())
@@ -74,16 +66,7 @@ impl Draft {
         if self.global_given {
             return None;
         }
-        let operations = [
-            Op::Execute,
-            Op::Firmware,
-            Op::Kmodule,
-            Op::KexecImage,
-            Op::KexecInitramfs,
-            Op::Policy,
-            Op::X509Cert,
-        ];
-        for op in operations {
+        for op in Op::ALL {
             if !self.has_op_default(op) {
                 return Some(op);
             }

@@ -21,10 +21,10 @@ pub use image::image_words;
 pub use op::{Action, Op};
 pub use policy::{Policy, Statements};
 pub use request::{Hook, Kind, Object, Request, Subject};
-pub use spelling::{bit_text, print, statement_text};
+pub use spelling::{bit_text, print, statement_text, truth_word};
 pub use statement::{Digest, Properties, Property, Statement};
 pub use version::Version;
-pub use words::{AlgName, Comm, DevName, DigestBytes, Name, PathName};
+pub use words::{AlgName, Comm, DevName, DigestBytes, Name, PathName, is_visible_word};
 
 #[cfg(test)]
 mod tests;

@@ -1,5 +1,6 @@
-ghost use Rattle.std.specs.Prelude.{◌≡◌, ◌++◌, codes};
+ghost use Rattle.std.specs.Prelude.{◌≡◌, ◌<◌, ◌++◌, codes};
 ghost use Rattle.ipe_policy.specs.Spelling.{action_token, op_word};
+ghost use Rattle.ipe_policy.specs.Statement.{op_number};
 
 /// What a request asks leave for, in the order of the operations.
 #[derive(Clone, Copy, Debug, PartialEq, Eq)]
@@ -21,6 +22,25 @@ pub enum Action {
 }
 
 impl Op {
+    /// All operations, in order.
+    pub const ALL: [Op; 7] = [
+        Op::Execute,
+        Op::Firmware,
+        Op::Kmodule,
+        Op::KexecImage,
+        Op::KexecInitramfs,
+        Op::Policy,
+        Op::X509Cert,
+    ];
+
+    /// The place of the operation in their order.
+    pub fn number(self) -> u32
+        ensures number { result ≡ op_number self }
+        ensures below { result < 7 }
+    {
+        self as u32
+    }
+
     /// The word that stands for the operation in a policy and in an audit record.
     pub fn word(self) -> &'static str
         ensures { result.now ≡ op_word self }

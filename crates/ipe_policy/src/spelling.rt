@@ -19,15 +19,18 @@ fn append_action(text: &mut Vec<u8>, action: Action) -> Result<(), AllocError>
     text.extend_from_slice(action.word().as_bytes())
 }
 
+/// The word of a truth value in a policy.
+pub fn truth_word(wanted: bool) -> &'static str
+    ensures { result.now ≡ truth_word wanted }
+{
+    if wanted { "TRUE" } else { "FALSE" }
+}
+
 fn append_truth(text: &mut Vec<u8>, key: &[u8], wanted: bool) -> Result<(), AllocError>
     ensures { OnOk result (text.new.items ≡ text.old.items ++ (key.now ++ truth_word wanted)) }
 {
     text.extend_from_slice(key)?;
-    text.extend_from_slice(if wanted {
-        b"TRUE".as_slice()
-    } else {
-        b"FALSE".as_slice()
-    })
+    text.extend_from_slice(truth_word(wanted).as_bytes())
 }
 
 fn append_digest(

@@ -2,7 +2,7 @@ ghost use Rattle.std.specs.Prelude.{◌≡◌, IfOk};
 ghost use Rattle.ipe_script.specs.Forms.{is_node, read_form, right_of, write_form, written_of};
 
 use crate::form::{Form, Written};
-use crate::word::{copied, hex_bytes, is_visible_word};
+use crate::word::{copied, hex_bytes};
 use ipe_policy::DevName;
 use ipe_words::Bytes;
 use std::alloc::{AllocError, Global};
@@ -28,7 +28,7 @@ fn right_of(who: &[u8]) -> Option<bool>
 fn is_node(word: &[u8]) -> bool
     ensures { result ≡ is_node word.now }
 {
-    is_visible_word(MOST_NODE, word)
+    is_visible_word(word, MOST_NODE)
 }
 
 // What a write's last two words say: the text of an id, a word, or bytes, where a dash says none.
@@ -38,7 +38,7 @@ fn written_of(alloc: Global, kind: &[u8], word: &[u8]) -> Result<Option<Written>
 {
     if kind == b"text".as_slice() {
         Ok(DevName::read(word).map(Written::Text))
-    } else if kind == b"echo".as_slice() && is_visible_word(MOST_ECHO, word) {
+    } else if kind == b"echo".as_slice() && is_visible_word(word, MOST_ECHO) {
         Ok(Some(Written::Echo(copied(alloc, word)?)))
     } else if kind == b"hex".as_slice() && word == b"-".as_slice() {
         Ok(Some(Written::Hex(Bytes::from_vec(Vec::new(alloc)))))

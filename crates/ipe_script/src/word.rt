@@ -1,6 +1,5 @@
-ghost use Rattle.std.specs.Prelude.{◌≡◌, ◌&&◌, nat_le, length, IfOk};
+ghost use Rattle.std.specs.Prelude.{◌≡◌, IfOk};
 ghost use Rattle.std.specs.List.{list_all};
-ghost use Rattle.ipe_policy.specs.Words.{is_visible, is_word};
 ghost use Rattle.ipe_script.specs.Forms.{hex_of, is_hex, is_lower_hex};
 
 use hex::FromHexError;
@@ -12,22 +11,10 @@ const DIGEST_DIGITS: usize = 64;
 
 const MOST_DIGITS: usize = 8192;
 
-fn is_visible(byte: u8) -> bool
-    ensures { result ≡ is_visible byte }
-{
-    (0x21..=0x7E).contains(&byte)
-}
-
 fn is_lower_hex(byte: u8) -> bool
     ensures { result ≡ is_lower_hex byte }
 {
     byte.is_ascii_digit() || (b'a'..=b'f').contains(&byte)
-}
-
-fn all_visible(word: &[u8]) -> bool
-    ensures { result ≡ list_all is_visible word.now }
-{
-    word.iter().all(|byte| is_visible(*byte))
 }
 
 fn all_lower_hex(word: &[u8]) -> bool
@@ -36,24 +23,11 @@ fn all_lower_hex(word: &[u8]) -> bool
     word.iter().all(|byte| is_lower_hex(*byte))
 }
 
-fn has_length(low: usize, high: usize, word: &[u8]) -> bool
-    ensures { result ≡ (nat_le low (length word.now) && nat_le (length word.now) high) }
-{
-    low <= word.len() && word.len() <= high
-}
-
-// A word of 1 to `most` visible bytes.
-pub fn is_visible_word(most: usize, word: &[u8]) -> bool
-    ensures { result ≡ is_word 1 most is_visible word.now }
-{
-    has_length(1, most, word) && all_visible(word)
-}
-
 // From `low` to `high` lower case digits, an even number of them.
 fn is_hex(low: usize, high: usize, word: &[u8]) -> bool
     ensures { result ≡ is_hex low high word.now }
 {
-    has_length(low, high, word) && all_lower_hex(word) && word.len() % 2 == 0
+    low <= word.len() && word.len() <= high && all_lower_hex(word) && word.len() % 2 == 0
 }
 
 // The 32 bytes that 64 digits spell.

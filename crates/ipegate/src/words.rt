@@ -1,11 +1,9 @@
-ghost use Rattle.std.specs.Prelude.{◌≡◌, ◌≢◌, ◌≤◌, ◌*◌, ◌↔◌, ◌&&◌, nat_le, false, None, Some, Option, List, ℕ, []};
+ghost use Rattle.std.specs.Prelude.{◌≡◌, ◌≢◌, ◌≤◌, ◌*◌, ◌↔◌, false, None, Some, Option, List, ℕ, []};
 ghost use Rattle.std.specs.Prelude.{length, IfSome, IsTrue};
-ghost use Rattle.std.specs.List.{list_all};
 ghost use Rattle.ipe_words.specs.Count.{Rose};
 ghost use Rattle.blk_device.specs.Contents.{Contents};
 ghost use Rattle.dmv_tree.specs.Blocks.{is_block_size};
 ghost use Rattle.fsv_tree.specs.Blocks.{is_block_size as is_file_block_size};
-ghost use Rattle.ipe_policy.specs.Words.{is_visible};
 ghost use Rattle.ipegate.specs.Words.{asks_devices, block_size_of, file_block_size_of, is_device, measure_by};
 ghost use Rattle.ipegate.specs.Words.{reads_source, root_by, salt_of};
 ghost use Rattle.ipegate.specs.Words.{WritesDone, WritesRefused, WritesSome};
@@ -13,12 +11,16 @@ ghost use Rattle.ipegate.specs.Words.{WritesDone, WritesRefused, WritesSome};
 use crate::{measure, root};
 use arrayvec::ArrayVec;
 use blk_device::Devices;
+use ipe_policy::is_visible_word;
 use ipe_words::{Sink, Source, Status};
 use std::alloc::Global;
 use std::marker::Model;
 
 /// The most digits of the salt of a device's tree.
 const MOST_DEVICE_DIGITS: usize = 512;
+
+/// The most bytes of a device's name.
+const MOST_DEVICE_NAME: usize = 255;
 
 /// The most digits of the salt of a file's tree.
 const MOST_FILE_DIGITS: usize = 64;
@@ -181,23 +183,5 @@ fn held(bytes: &[u8]) -> ArrayVec<u8, 256>
 fn is_device(word: &[u8]) -> bool
     ensures { result ≡ is_device word.now }
 {
-    has_length(word, 1, 255) && all_visible(word)
-}
-
-fn has_length(bytes: &[u8], low: usize, high: usize) -> bool
-    ensures { result ≡ (nat_le low (length bytes.now) && nat_le (length bytes.now) high) }
-{
-    low <= bytes.len() && bytes.len() <= high
-}
-
-fn all_visible(bytes: &[u8]) -> bool
-    ensures { result ≡ list_all is_visible bytes.now }
-{
-    bytes.iter().all(|byte| is_visible(*byte))
-}
-
-fn is_visible(byte: u8) -> bool
-    ensures { result ≡ is_visible byte }
-{
-    (0x21..=0x7E).contains(&byte)
+    is_visible_word(word, MOST_DEVICE_NAME)
 }

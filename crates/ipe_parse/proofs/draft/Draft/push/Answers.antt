@@ -10,7 +10,7 @@ invariant_of-self-in-Nothing c = record {
 
 pub invariant_of-self-in-OfOp : goal.invariant_of-self-in-OfOp
 invariant_of-self-in-OfOp c = record {
-  flags = rw (c.in_ok-push.ensures.items, c.op_number.ensures.number) (Flags-of_op _ _ _ c.args.statement c.in-OfOp.op (sym c.in-OfOp.ensures) c.args.self.now.flags);
+  flags = rw (c.in_ok-push.ensures.items, c.number.ensures.number) (Flags-of_op _ _ _ c.args.statement c.in-OfOp.op (sym c.in-OfOp.ensures) c.args.self.now.flags);
   once = rw c.in_ok-push.ensures.items (IsOnce-push _ c.args.statement c.requires c.args.self.now.once);
 }
 
