@@ -1,6 +1,8 @@
 ghost use Rattle.std.specs.Prelude.{◌≡◌, Some, None, length, drop, position, if◌then◌else◌, ◌==◌};
 ghost use Rattle.std.specs.Option.{option_copied};
 ghost use Rattle.std.specs.List.{after_first, before_first};
+ghost use Rattle.ipe_policy.specs.Spelling.{op_word};
+ghost use Rattle.ipe_policy.specs.Words.{is_text};
 ghost use Rattle.ipe_parse.specs.Tokens.{action_named, begins, digest_of, digest_property_of, hex_bytes, is_colon, op_named, op_of, property_of, truth_property_of};
 
 use crate::BadKind;
@@ -14,31 +16,16 @@ pub(crate) fn behind<'a>(prefix: &[u8], token: &'a [u8]) -> Option<&'a [u8]>
     token.strip_prefix(prefix)
 }
 
+fn is_word_of(op: Op, word: &[u8]) -> bool
+    ensures { result ≡ is_text (op_word op) word.now }
+{
+    word == op.word().as_bytes()
+}
+
 pub(crate) fn op_named(word: &[u8]) -> Option<Op>
     ensures { result ≡ op_named word.now }
 {
-    if word == b"EXECUTE".as_slice() {
-        return Some(Op::Execute);
-    }
-    if word == b"FIRMWARE".as_slice() {
-        return Some(Op::Firmware);
-    }
-    if word == b"KMODULE".as_slice() {
-        return Some(Op::Kmodule);
-    }
-    if word == b"KEXEC_IMAGE".as_slice() {
-        return Some(Op::KexecImage);
-    }
-    if word == b"KEXEC_INITRAMFS".as_slice() {
-        return Some(Op::KexecInitramfs);
-    }
-    if word == b"POLICY".as_slice() {
-        return Some(Op::Policy);
-    }
-    if word == b"X509_CERT".as_slice() {
-        return Some(Op::X509Cert);
-    }
-    None
+    Op::ALL.iter().copied().find(|op| is_word_of(*op, word))
 }
 
 pub(crate) fn op_of(token: &[u8]) -> Option<Op>
