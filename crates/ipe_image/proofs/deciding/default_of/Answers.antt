@@ -28,7 +28,7 @@ global-read words parts word h read = ap default_read (read ∙ (at words parts 
 
 pub returns-in-Some-clause-found : goal.returns-in-Some-clause-found
 returns-in-Some-clause-found g c parts h =
-    let own = own-read _ parts c.args.op c.op_number.result c.word.result h c.op_number.ensures.number
+    let own = own-read _ parts c.args.op c.number.result c.word.result h c.number.ensures.number
     c.word.ensures.word in
     ap (λ (o : Option Action). default_found OpDefault o (default_found GlobalDefault parts.global None)) (sym
     (c.in-Some.ensures ∙ own))
@@ -37,7 +37,7 @@ pub unreachable-requires : goal.unreachable-requires
 unreachable-requires g c =
     let parts = c.requires.0 in
     let h = c.requires.1 in
-    let own = own-read _ parts c.args.op c.op_number.result c.word.result h c.op_number.ensures.number
+    let own = own-read _ parts c.args.op c.number.result c.word.result h c.number.ensures.number
     c.word.ensures.word in
     let no_own : c.action_of.result ≡ None = c.in_default.is in
     let global = global-read (g.R.WordReader.words c.args.reader.now) parts c.word-2.result h
@@ -47,7 +47,7 @@ unreachable-requires g c =
 
 pub returns-clause-found : goal.returns-clause-found
 returns-clause-found g c parts h =
-    let own = own-read _ parts c.args.op c.op_number.result c.word.result h c.op_number.ensures.number
+    let own = own-read _ parts c.args.op c.number.result c.word.result h c.number.ensures.number
     c.word.ensures.word in
     let no_own : c.action_of.result ≡ None = c.in_default.is in
     let global = global-read (g.R.WordReader.words c.args.reader.now) parts c.word-2.result h
