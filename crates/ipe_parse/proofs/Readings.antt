@@ -16,23 +16,15 @@ use Rattle.ipe_parse.specs.declared.error.ParseError.{ParseError}
 use Rattle.ipe_parse.specs.declared.error.ParseError.TheVariants as error
 use Rattle.ipe_parse.specs.declared.header.Header.{Header}
 use Rattle.ipe_parse.specs.Defaults.{IsOnce, first_missing, repeats_default}
-use Rattle.ipe_parse.specs.Tokens.{header_of, statement_of}
-use Rattle.ipe_parse.specs.Reading.{IsReading, SpokenLine, ◌>>=◌, at_line, completed, is_spoken, next_statement, not_twice, reading, reading_of_lines, spoken_lines, statements_from}
+use Rattle.ipe_parse.specs.Tokens.{◌>>=◌, header_of, statement_of}
+use Rattle.ipe_parse.specs.Reading.{IsReading, SpokenLine, at_line, completed, is_spoken, next_statement, not_twice, reading, reading_of_lines, spoken_lines, statements_from}
 use Rattle.ipe_parse.specs.Walk.{spoken_of}
 use Rattle.ipe_parse.proofs.DraftLemmas.{IsOnce-push, each-has-one}
 use Rattle.ipe_parse.proofs.SpokenLemmas.{placed_lines-few, spoken_lines-placed}
 use Rattle.ipe_parse.specs.Reads.{HasFault, Reads, ReadsAsOne, Refuses, SpellsStatement}
+use Rattle.ipe_parse.proofs.Steps.{then-ok, then-parts}
 use Rattle.ipe_parse.proofs.Defaults.{missing-none, repeats-none}
 use Rattle.ipe_parse.proofs.SpelledStatements.{SpellsHeader, header-read, header-spelled, statement-read, statement-spelled}
-
--- the second step is taken where the first gives a value
-then-ok : {A B : Type 0} (r : Result A BadText) (x : A) (next : A → Result B BadText) → r ≡ Ok x → (r >>= next) ≡ next x
-then-ok r x next e = ap (λ (r : Result _ BadText). r >>= next) e
-
--- where two steps give a value, both do
-then-parts : {A B : Type 0} (r : Result A BadText) (next : A → Result B BadText) (y : B) → (r >>= next) ≡ Ok y → (x : A) × (r ≡ Ok x) × (next x ≡ Ok y)
-then-parts (Ok x) next y e = (x, refl, e)
-then-parts (Err fault) next y e = absurd (cc)
 
 -- a value at a line is the value of the line
 line-parts : {A : Type 0} (number : ℕ) (r : Result A BadKind) (x : A) → at_line number r ≡ Ok x → r ≡ Ok x

@@ -1,16 +1,15 @@
 -- Steps that give a value: what each part of them gave.
 use Rattle.std.proofs.Common.{◌≡◌, ◌⊎◌, inl, inr, Bool, true, false, cond, Option, Some, None, Result, Ok, Err, ok_or, option_map, refl, ap}
-use Rattle.ipe_parse.specs.declared.error.BadKind.{BadKind}
 use Rattle.ipe_parse.specs.Tokens.{◌>>=◌}
 
 -- the second step is taken where the first gives a value
-pub then-ok : {A B : Type 0} (r : Result A BadKind) (x : A) (next : A → Result B BadKind) → r ≡ Ok x → (r >>= next) ≡ next x
-then-ok r x next e = ap (λ (r : Result _ BadKind). r >>= next) e
+pub then-ok : {A B E : Type 0} (r : Result A E) (x : A) (next : A → Result B E) → r ≡ Ok x → (r >>= next) ≡ next x
+then-ok {A} {B} {E} r x next e = ap (λ (r : Result A E). r >>= next) e
 
 -- where two steps give a value, both do
-pub then-parts : {A B : Type 0} (r : Result A BadKind) (next : A → Result B BadKind) (y : B) → (r >>= next) ≡ Ok y → (x : A) × (r ≡ Ok x) × (next x ≡ Ok y)
+pub then-parts : {A B E : Type 0} (r : Result A E) (next : A → Result B E) (y : B) → (r >>= next) ≡ Ok y → (x : A) × (r ≡ Ok x) × (next x ≡ Ok y)
 then-parts (Ok x) next y e = (x, refl, e)
-then-parts (Err kind) next y e = absurd (cc)
+then-parts (Err error) next y e = absurd (cc)
 
 -- two values that are the same value
 pub same-ok : {A E : Type 0} (x y : A) → ◌≡◌ {A = Result A E} (Ok x) (Ok y) → x ≡ y

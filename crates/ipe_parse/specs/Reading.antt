@@ -13,7 +13,7 @@ use Rattle.ipe_parse.specs.declared.error.BadText.TheVariants.{Bad, NoDefault}
 use Rattle.ipe_parse.specs.declared.error.ParseError.{ParseError}
 use Rattle.ipe_parse.specs.declared.error.ParseError.TheVariants as error
 use Rattle.ipe_parse.specs.declared.header.Header.{Header}
-use Rattle.ipe_parse.specs.Tokens.{header_of, statement_of}
+use Rattle.ipe_parse.specs.Tokens.{◌>>=◌, header_of, statement_of}
 use Rattle.ipe_parse.specs.Defaults.{first_missing, repeats_default}
 
 -- a line as its tokens, with its number from 1
@@ -44,12 +44,6 @@ at_line number (Err kind) = Err (Bad number kind)
 -- the statement of a line, behind the statements of the lines before it
 abbrev pub next_statement : List Statement → SpokenLine → Result Statement BadText
 next_statement before line = at_line line.number (not_twice before (statement_of line.tokens))
-
--- the second step, where the first gave a value
-infixl 10 ◌>>=◌
-abbrev pub ◌>>=◌ : {A B : Type 0} → Result A BadText → (A → Result B BadText) → Result B BadText
-Ok x >>= next = next x
-Err fault >>= next = Err fault
 
 -- the statements of lines, behind those before them, or the first fault
 abbrev pub statements_from : List Statement → List SpokenLine → Result (List Statement) BadText

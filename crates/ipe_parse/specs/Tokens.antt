@@ -23,9 +23,9 @@ use Rattle.ipe_parse.specs.declared.error.BadKind.TheVariants.{NoHeader, BadName
 
 -- the second step, where the first gave a value
 infixl 10 ◌>>=◌
-abbrev pub ◌>>=◌ : {A B : Type 0} → Result A BadKind → (A → Result B BadKind) → Result B BadKind
+abbrev pub ◌>>=◌ : {A B E : Type 0} → Result A E → (A → Result B E) → Result B E
 Ok x >>= next = next x
-Err kind >>= next = Err kind
+Err error >>= next = Err error
 
 -- the token begins with this text
 abbrev pub begins : List ℕ → List ℕ → Bool
