@@ -28,9 +28,9 @@ use Rattle.ipe_history.proofs.Given.{Found, found_either, found_made, found_map,
 use Rattle.ipe_history.proofs.Within.{Whole, both, chain_whole, hex_whole, joined_whole, word_whole, words_whole}
 
 -- what a second step makes of a first value
-ok_then : {X Y : Type 0} (P : X → Type 0) (Q : Y → Type 0) (r : Result X BadKind) (next : X → Result Y BadKind) → IfOk r P → ((x : X) → P x → IfOk (next x) Q) → IfOk (r >>= next) Q
+pub ok_then : {X Y E : Type 0} (P : X → Type 0) (Q : Y → Type 0) (r : Result X E) (next : X → Result Y E) → IfOk r P → ((x : X) → P x → IfOk (next x) Q) → IfOk (r >>= next) Q
 ok_then P Q (Ok x) next h k = k x h
-ok_then P Q (Err fault) next h k = tt
+ok_then P Q (Err error) next h k = tt
 
 -- ---- tokens
 

@@ -10,16 +10,11 @@ use Rattle.ipe_parse.specs.declared.header.Header.{Header}
 use Rattle.ipe_parse.specs.declared.error.BadText.{BadText}
 use Rattle.ipe_parse.specs.Tokens.{header_of}
 use Rattle.ipe_parse.specs.Defaults.{first_missing}
-use Rattle.ipe_parse.specs.Reading.{SpokenLine, ◌>>=◌, at_line, completed, next_statement, reading, reading_of_lines, spoken_lines, statements_from}
+use Rattle.ipe_parse.specs.Reading.{SpokenLine, at_line, completed, next_statement, reading, reading_of_lines, spoken_lines, statements_from}
 use Rattle.ipe_machine.specs.Policies.{no_policy, policy_in}
 use Rattle.ipe_history.proofs.Cuts.{All_both}
 use Rattle.ipe_history.proofs.Within.{Whole}
-use Rattle.ipe_history.proofs.ReadPolicies.{IsWholeHeader, IsWholeStatement, header_read, line_read, next_read}
-
--- what a second step makes of a first value
-ok_then : {X Y : Type 0} (P : X → Type 0) (Q : Y → Type 0) (r : Result X BadText) (next : X → Result Y BadText) → IfOk r P → ((x : X) → P x → IfOk (next x) Q) → IfOk (r >>= next) Q
-ok_then P Q (Ok x) next h k = k x h
-ok_then P Q (Err fault) next h k = tt
+use Rattle.ipe_history.proofs.ReadPolicies.{IsWholeHeader, IsWholeStatement, header_read, line_read, next_read, ok_then}
 
 -- statements within lines
 abbrev AreWhole : List Statement → Type 0
