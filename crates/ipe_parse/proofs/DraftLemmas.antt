@@ -1,6 +1,6 @@
 -- The flags of a draft after one more statement.
-use Rattle.std.proofs.Common.{◌≡◌, ℕ, zero, suc, ◌+◌, ◌<◌, ◌≤◌, ◌⊎◌, inl, inr, Bool, true, false, not, cond, eqb, ltb, Option, Some, None, drop, add-one, List, [], ◌∷◌, ◌++◌, length, get_or, set, refl, sym, ◌∙◌, ap, arith, length-append, length-set, get_or-set_same, get_or-set_other}
-use Rattle.std.specs.List.{filter_map, cons_option, find}
+use Rattle.std.proofs.Common.{◌≡◌, ℕ, ◌+◌, ◌<◌, ◌≤◌, inl, inr, Bool, true, false, not, cond, ltb, Option, Some, None, drop, add-one, List, [], ◌∷◌, ◌++◌, length, get_or, set, refl, sym, ◌∙◌, ap, arith, length-append, length-set, get_or-set_same, get_or-set_other}
+use Rattle.std.specs.List.{find}
 use Rattle.std.proofs.Math.Seq.{drop-cons}
 use Rattle.std.proofs.lemmas.List.Elements.{filter_map-append}
 use Rattle.std.proofs.lemmas.Bool.{cases_eq, eq-eqb, ne_eqb, ltb-false, ltb-true, lt-ltb, le-ltb, cases_lt}
@@ -9,9 +9,8 @@ use Rattle.ipe_policy.specs.declared.op.Op.TheVariants.{Execute, Firmware, Kmodu
 use Rattle.ipe_policy.specs.declared.op.Action.{Action}
 use Rattle.ipe_policy.specs.declared.statement.Statement.{Statement}
 use Rattle.ipe_policy.specs.declared.statement.Statement.TheVariants.{Rule, OpDefault, GlobalDefault}
-use Rattle.ipe_policy.specs.Statement.{op_number, op_default_of, global_default_of, operations, same_op}
+use Rattle.ipe_policy.specs.Statement.{op_number, op_default_of, global_default_of, operations}
 use Rattle.ipe_policy.specs.Policy.{op_defaults, global_defaults}
-use Rattle.ipe_parse.specs.declared.given.Given.{Given}
 use Rattle.ipe_parse.specs.declared.given.Given.TheVariants.{Nothing, OfOp, Global}
 use Rattle.ipe_parse.specs.Given.{given_of}
 use Rattle.ipe_parse.specs.Defaults.{Flags, IsOnce, first_missing, has_global_default, has_op_default, repeats_default}

@@ -1,5 +1,5 @@
 -- Lines that haven't two tokens are no header.
-use Rattle.std.proofs.Common.{◌≡◌, ℕ, ◌<◌, List, [], ◌∷◌, length, Result, Err, refl, arith}
+use Rattle.std.proofs.Common.{◌≡◌, ℕ, ◌<◌, List, [], ◌∷◌, length, Err, refl, arith}
 use Rattle.std.specs.Borrow.{Bor}
 use Rattle.ipe_parse.specs.declared.error.BadKind.TheVariants.{NoHeader}
 use Rattle.ipe_parse.specs.Lines.{words}

@@ -5,7 +5,7 @@ use Rattle.std.proofs.lemmas.List.{length-map}
 use Rattle.std.specs.Borrow.{Bor}
 use Rattle.ipe_policy.specs.declared.statement.Property.{Property}
 use Rattle.ipe_parse.specs.declared.error.BadKind.{BadKind}
-use Rattle.ipe_parse.specs.Tokens.{◌>>=◌, properties_of, property_of}
+use Rattle.ipe_parse.specs.Tokens.{◌>>=◌}
 use Rattle.ipe_parse.specs.Lines.{words}
 
 -- what is read, behind what was read before it

@@ -32,7 +32,7 @@ line-parts number (Ok y) x e = cc
 line-parts number (Err kind) x e = absurd (cc)
 
 -- the tokens of lines
-abbrev tokens_on : List SpokenLine → List (List (List ℕ))
+abbrev pub tokens_on : List SpokenLine → List (List (List ℕ))
 tokens_on lines = map (λ (line : SpokenLine). line.tokens) lines
 
 -- ---- statements

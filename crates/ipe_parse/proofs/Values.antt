@@ -1,28 +1,19 @@
 -- What is printed of a value is read as that value.
-use Rattle.std.proofs.Common.{◌≡◌, ℕ, zero, suc, ◌*◌, ◌<◌, ◌≤◌, true, false, not, ◌&&◌, codes, List, [], ◌∷◌, ◌++◌, length, Some, Ok, refl, ap, ◌∙◌, arith, rules, append_assoc}
-use Rattle.std.specs.Prelude.{nat_le}
+use Rattle.std.proofs.Common.{◌≡◌, ℕ, zero, suc, ◌*◌, ◌<◌, ◌≤◌, true, not, codes, List, [], ◌∷◌, ◌++◌, length, Some, Ok, refl, ap, ◌∙◌, arith, rules, append_assoc}
 use Rattle.std.specs.List.{list_all, before_first, after_first, AllByRecursion}
 use Rattle.std.specs.Fmt.{decimal}
-use Rattle.std.proofs.lemmas.Bool.{and_parts, le-leb}
+use Rattle.std.proofs.lemmas.Bool.{le-leb}
 use Rattle.std.proofs.lemmas.Bool.Decides.{nat_tests}
 use Rattle.std.proofs.lemmas.Fmt.{decimal_nonempty, digits_decimal, digits_value-decimal, length-decimal-le}
 use Rattle.std.proofs.lemmas.Str.Parse.{IsNumeralModel, numerals_by_fold}
 use Rattle.hex.specs.Hex.{IsBytes, decode_of, encode_lower}
 use Rattle.hex.proofs.HexLemmas.{decode_of-encode_lower, decode_of-ok}
-use Rattle.ipe_policy.specs.declared.op.Op.{Op}
-use Rattle.ipe_policy.specs.declared.op.Op.TheVariants.{Execute, Firmware, Kmodule, KexecImage, KexecInitramfs, Policy, X509Cert}
-use Rattle.ipe_policy.specs.declared.op.Action.{Action}
-use Rattle.ipe_policy.specs.declared.op.Action.TheVariants.{Allow, Deny}
-use Rattle.ipe_policy.specs.declared.statement.Digest.{Digest}
-use Rattle.ipe_policy.specs.declared.statement.Property.{Property}
-use Rattle.ipe_policy.specs.declared.statement.Property.TheVariants.{BootVerified, DmverityRoothash, DmveritySignature, FsverityDigest, FsveritySignature}
 use Rattle.ipe_policy.specs.declared.version.Version.{Version}
-use Rattle.ipe_policy.specs.Words.{is_alg_byte, is_alg_name, is_digit}
+use Rattle.ipe_policy.specs.Words.{is_digit}
 use Rattle.ipe_policy.specs.Version.{digits_onto, is_dot, part_of, version_of}
-use Rattle.ipe_policy.specs.Spelling.{action_token, digest_word, op_token, op_word, property_token, version_text}
-use Rattle.ipe_parse.specs.Tokens.{action_named, digest_of, hex_bytes, is_colon, op_named, op_of, property_of}
-use Rattle.ipe_parse.specs.Printed.{IsPrintableDigest, IsPrintableProperty, IsPrintableVersion}
-use Rattle.ipe_parse.proofs.Spells.{op_named-word}
+use Rattle.ipe_policy.specs.Spelling.{version_text}
+use Rattle.ipe_parse.specs.Tokens.{hex_bytes}
+use Rattle.ipe_parse.specs.Printed.{IsPrintableVersion}
 use Rattle.ipe_parse.proofs.Bytes.{after-at, all-weaker, before-at}
 
 -- ---- versions
@@ -90,42 +81,3 @@ hex_bytes-encode_lower bytes h low high =
     let ok = decode_of-ok (encode_lower bytes) bytes read in
     let twice : length (encode_lower bytes) ≡ 2 * length bytes = ok.2 in
     rw (le-leb 2 (length (encode_lower bytes)) (omega arith), le-leb (length (encode_lower bytes)) 128 (omega arith), read)
-
--- a byte of the name of an algorithm is no colon
-alg-no_colon : (byte : ℕ) → is_alg_byte byte ≡ true → not (is_colon byte) ≡ true
-alg-no_colon byte h = grind (arith, nat_tests)
-
--- each byte of the name of an algorithm may stand there
-pub alg-bytes : (alg : List ℕ) → is_alg_name alg ≡ true → list_all is_alg_byte alg ≡ true
-alg-bytes alg h = (and_parts (nat_le 1 (length alg) && nat_le (length alg) 16) (list_all is_alg_byte alg) h).1
-
--- a word is cut at its colon
-digest-read : (alg text bytes : List ℕ) → is_alg_name alg ≡ true → hex_bytes text ≡ Some bytes → digest_of (alg ++ 58 ∷ text) ≡ Some (record { alg = alg; bytes = bytes })
-digest-read alg text bytes name read =
-    let apart = all-weaker is_alg_byte (λ byte. not (is_colon byte)) alg-no_colon alg (alg-bytes alg name) in
-    let first : before_first is_colon (alg ++ 58 ∷ text) ≡ alg = before-at is_colon alg 58 text apart refl in
-    let second : after_first is_colon (alg ++ 58 ∷ text) ≡ text = after-at is_colon alg 58 text apart refl in
-    rw (first, second, name, read)
-
--- a digest is read as itself
-pub digest_of-word : (digest : Digest) → IsPrintableDigest digest → digest_of (digest_word digest) ≡ Some digest
-digest_of-word digest h =
-    ap digest_of (append_assoc digest.alg (codes ":") (encode_lower digest.bytes))
-    ∙ digest-read digest.alg (encode_lower digest.bytes) digest.bytes h.alg (hex_bytes-encode_lower digest.bytes (bytes-by_index digest.bytes h.bytes) h.has_byte h.few)
-
--- ---- properties, operations and actions
-
--- a property is read as itself
-pub property_of-token : (property : Property) → IsPrintableProperty property → property_of (property_token property) ≡ Ok property
-property_of-token (BootVerified true) h = refl
-property_of-token (BootVerified false) h = refl
-property_of-token (DmverityRoothash digest) h = rw (digest_of-word digest h)
-property_of-token (DmveritySignature true) h = refl
-property_of-token (DmveritySignature false) h = refl
-property_of-token (FsverityDigest digest) h = rw (digest_of-word digest h)
-property_of-token (FsveritySignature true) h = refl
-property_of-token (FsveritySignature false) h = refl
-
--- an operation behind its key is read as itself
-pub op_of-token : (op : Op) → op_of (op_token op) ≡ Some op
-op_of-token op = op_named-word op

@@ -1,4 +1,4 @@
-use Rattle.std.proofs.Common.{sym, drop}
+use Rattle.std.proofs.Common.{sym}
 use Rattle.std.proofs.lemmas.Option.{cond_some}
 use Rattle.ipe_parse.proofs.header_line.header_words.Goals as goal
 

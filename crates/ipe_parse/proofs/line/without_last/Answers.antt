@@ -1,5 +1,3 @@
-use Rattle.std.proofs.Common.{◌-◌, length, take}
-use Rattle.std.proofs.Common.{rules}
 use Rattle.ipe_parse.proofs.Properties.{words-take}
 use Rattle.ipe_parse.proofs.line.without_last.Goals as goal
 

@@ -1,8 +1,7 @@
-use Rattle.std.proofs.Common.{◌≡◌, ◌≤◌, map, filter, length, ap, ◌∙◌, arith}
-use Rattle.ipe_lex.specs.Lines.{lines_of, placed_lines}
+use Rattle.std.proofs.Common.{map, filter, ap, ◌∙◌, arith}
 use Rattle.ipe_parse.proofs.Readings.{answered-fault, answered-policy}
 use Rattle.ipe_parse.proofs.SpokenLemmas.{placed_lines-few, spoken_lines-placed}
-use Rattle.ipe_parse.specs.Reading.{Gives, is_spoken, reading, reading_of_lines}
+use Rattle.ipe_parse.specs.Reading.{is_spoken, reading}
 use Rattle.ipe_parse.specs.Walk.{spoken_of}
 use Rattle.ipe_parse.proofs.reading.parse.Goals as goal
 

@@ -1,7 +1,7 @@
 use Rattle.std.proofs.Common.{◌≡◌, ◌<◌, true, false, not, length, get_or, refl, sym, ◌∙◌, arith, rules}
 use Rattle.ipe_policy.specs.declared.op.Op.TheVariants.{Execute}
 use Rattle.ipe_policy.specs.Statement.{operations}
-use Rattle.ipe_parse.specs.Defaults.{first_missing, has_global_default, has_op_default}
+use Rattle.ipe_parse.specs.Defaults.{has_op_default}
 use Rattle.ipe_parse.proofs.DraftLemmas.{find-hit, find-miss, first_missing-by_op}
 use Rattle.ipe_parse.proofs.draft.Draft.first_missing.Goals as goal
 

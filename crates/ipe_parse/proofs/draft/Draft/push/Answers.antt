@@ -1,4 +1,4 @@
-use Rattle.std.proofs.Common.{sym, ◌∙◌}
+use Rattle.std.proofs.Common.{sym}
 use Rattle.ipe_parse.proofs.DraftLemmas.{Flags-nothing, Flags-of_op, Flags-global, IsOnce-push}
 use Rattle.ipe_parse.proofs.draft.Draft.push.Goals as goal
 
