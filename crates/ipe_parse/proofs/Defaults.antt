@@ -1,28 +1,18 @@
 -- Which statements leave no operation without a default, and repeat none.
-use Rattle.std.proofs.Common.{◌≡◌, ◌+◌, ◌≤◌, Bool, true, false, not, cond, List, ◌∷◌, ◌++◌, length, find, Option, Some, None, refl, ap, arith, length-append, le-ltb, lt-ltb, ltb-false}
+use Rattle.std.proofs.Common.{◌≡◌, ◌+◌, ◌≤◌, Bool, true, false, not, cond, List, ◌∷◌, ◌++◌, length, find, Option, None, refl, ap, arith, length-append, le-ltb, lt-ltb, ltb-false, eq-eqb}
 use Rattle.std.proofs.lemmas.List.Elements.{filter_map-append}
 use Rattle.ipe_policy.specs.declared.op.Op.{Op}
 use Rattle.ipe_policy.specs.declared.op.Op.TheVariants.{Execute, Firmware, Kmodule, KexecImage, KexecInitramfs, Policy, X509Cert}
 use Rattle.ipe_policy.specs.declared.op.Action.{Action}
 use Rattle.ipe_policy.specs.declared.statement.Statement.{Statement}
 use Rattle.ipe_policy.specs.declared.statement.Statement.TheVariants.{Rule, OpDefault, GlobalDefault}
-use Rattle.ipe_policy.specs.Statement.{op_default_of, global_default_of, operations, same_op}
+use Rattle.ipe_policy.specs.Statement.{op_default_of, global_default_of, op_number, operations}
 use Rattle.ipe_policy.specs.Policy.{op_defaults, global_defaults}
 use Rattle.ipe_parse.specs.Defaults.{IsOnce, first_missing, has_global_default, has_op_default, repeats_default}
 
--- an operation is the same as itself
-same_op-itself : (op : Op) → same_op op op ≡ true
-same_op-itself Execute = refl
-same_op-itself Firmware = refl
-same_op-itself Kmodule = refl
-same_op-itself KexecImage = refl
-same_op-itself KexecInitramfs = refl
-same_op-itself Policy = refl
-same_op-itself X509Cert = refl
-
 -- a default of an operation is one more of them
 one-more : (op : Op) (action : Action) (items : List Statement) → length (op_defaults op (OpDefault op action ∷ items)) ≡ length (op_defaults op items) + 1
-one-more op action items = rw (same_op-itself op) (omega arith)
+one-more op action items = rw (eq-eqb (op_number op) (op_number op) refl) (omega arith)
 
 -- where no default is given twice, no statement repeats one that stands before it
 pub repeats-none : (before items : List Statement) (statement : Statement) → IsOnce (before ++ statement ∷ items) → repeats_default before statement ≡ false
@@ -43,10 +33,6 @@ repeats-none before items (GlobalDefault action) once =
       length-append (global_defaults before) (global_defaults (GlobalDefault action ∷ items)),
     ))
 
--- an operation with a default is passed by
-passed_by : {X : Type 0} (b : Bool) (x : X) (o : Option X) → b ≡ true → o ≡ None → cond (not b) (Some x) o ≡ None
-passed_by b x o given others = rw (given, others)
-
 -- nothing is missing where a global default is given or no operation lacks one
 missing-by : (b : Bool) (o : Option Op) → (b ≡ false → o ≡ None) → cond b None o ≡ None
 missing-by true o h = refl
@@ -55,13 +41,7 @@ missing-by false o h = h refl
 -- no operation is found without a default where each has one
 none-found : (items : List Statement) → ((op : Op) → has_op_default op items ≡ true) → find (λ (op : Op). not (has_op_default op items)) operations ≡ None
 none-found items given =
-    passed_by (has_op_default Execute items) Execute _ (given Execute) (
-    passed_by (has_op_default Firmware items) Firmware _ (given Firmware) (
-    passed_by (has_op_default Kmodule items) Kmodule _ (given Kmodule) (
-    passed_by (has_op_default KexecImage items) KexecImage _ (given KexecImage) (
-    passed_by (has_op_default KexecInitramfs items) KexecInitramfs _ (given KexecInitramfs) (
-    passed_by (has_op_default Policy items) Policy _ (given Policy) (
-    passed_by (has_op_default X509Cert items) X509Cert None (given X509Cert) refl))))))
+    rw (given Execute, given Firmware, given Kmodule, given KexecImage, given KexecInitramfs, given Policy, given X509Cert)
 
 -- where each operation has a default, none is missing
 pub missing-none : (items : List Statement) → ((op : Op) → 1 ≤ length (op_defaults op items) + length (global_defaults items)) → first_missing items ≡ None

@@ -1,5 +1,5 @@
 -- The word of a digest is read as the digest that it spells.
-use Rattle.std.proofs.Common.{◌≡◌, ℕ, ◌⊎◌, inl, inr, true, false, not, Bool, cond, arith, length, List, [], ◌∷◌, ◌++◌, codes, Option, Some, None, option_map, refl, sym, ◌∙◌, ap, subst, append_assoc}
+use Rattle.std.proofs.Common.{◌≡◌, ℕ, ◌⊎◌, inl, inr, true, not, cond, arith, length, List, [], ◌∷◌, ◌++◌, codes, Some, None, option_map, refl, sym, ◌∙◌, ap, subst, append_assoc}
 use Rattle.std.specs.List.{before_first, after_first, list_all, position_or_len}
 use Rattle.std.proofs.Math.ListN.{drop_of_length-le}
 use Rattle.std.proofs.lemmas.Bool.{and_parts, cases_lt, eqb-true}
@@ -9,7 +9,7 @@ use Rattle.ipe_policy.specs.declared.statement.Digest.{Digest}
 use Rattle.ipe_policy.specs.Words.{is_alg_byte, is_alg_name}
 use Rattle.ipe_parse.specs.Tokens.{digest_of, hex_bytes, is_colon}
 use Rattle.ipe_parse.specs.Reads.{SpellsDigest}
-use Rattle.ipe_parse.proofs.Steps.{map-parts}
+use Rattle.ipe_parse.proofs.Steps.{map-parts, there}
 use Rattle.ipe_parse.proofs.Bytes.{after-at, all-weaker, before-at}
 
 -- a byte of an algorithm's name is no colon
@@ -47,17 +47,12 @@ spelled : (word alg digits bytes : List ℕ) (digest : Digest) → word ≡ alg 
 spelled word alg digits bytes digest whole name read same =
     subst (λ (d : Digest). SpellsDigest word d) same (record { digits = digits; whole = whole ∙ sym (append_assoc alg (codes ":") digits); alg = name; bytes = read })
 
--- the test of a value that is there held
-taken : (b : Bool) (o : Option Digest) (d : Digest) → cond b o None ≡ Some d → (b ≡ true) × (o ≡ Some d)
-taken true o d e = (refl, e)
-taken false o d e = absurd (cc)
-
 -- a word that is read as a digest spells it
 pub digest-spelled : (word : List ℕ) (digest : Digest) → digest_of word ≡ Some digest → SpellsDigest word digest
 digest-spelled word digest e =
     let front = before_first is_colon word in
     let rest = after_first is_colon word in
-    let both = taken (is_alg_name front) (option_map {U = Digest} (λ (bytes : List ℕ). record { alg = front; bytes = bytes }) (hex_bytes rest)) digest e in
+    let both = there (is_alg_name front) (option_map {U = Digest} (λ (bytes : List ℕ). record { alg = front; bytes = bytes }) (hex_bytes rest)) digest e in
     let read = map-parts {B = Digest} (λ (bytes : List ℕ). record { alg = front; bytes = bytes }) (hex_bytes rest) digest both.1 in
     elim (colon-cut word) [
       | inl none ↦ absurd (let nothing : hex_bytes rest ≡ None = ap hex_bytes none in let found = read.1 in cc)

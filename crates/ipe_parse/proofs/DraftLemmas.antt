@@ -3,7 +3,7 @@ use Rattle.std.proofs.Common.{◌≡◌, ℕ, ◌+◌, ◌<◌, ◌≤◌, inl, 
 use Rattle.std.specs.List.{find}
 use Rattle.std.proofs.Math.Seq.{drop-cons}
 use Rattle.std.proofs.lemmas.List.Elements.{filter_map-append}
-use Rattle.std.proofs.lemmas.Bool.{cases_eq, eq-eqb, ne_eqb, ltb-false, ltb-true, lt-ltb, le-ltb, cases_lt}
+use Rattle.std.proofs.lemmas.Bool.{not-false, cases_eq, eq-eqb, ne_eqb, ltb-false, ltb-true, lt-ltb, le-ltb, cases_lt}
 use Rattle.ipe_policy.specs.declared.op.Op.{Op}
 use Rattle.ipe_policy.specs.declared.op.Op.TheVariants.{Execute, Firmware, Kmodule, KexecImage, KexecInitramfs, Policy, X509Cert}
 use Rattle.ipe_policy.specs.declared.op.Action.{Action}
@@ -15,11 +15,11 @@ use Rattle.ipe_parse.specs.declared.given.Given.TheVariants.{Nothing, OfOp, Glob
 use Rattle.ipe_parse.specs.Given.{given_of}
 use Rattle.ipe_parse.specs.Defaults.{Flags, IsOnce, first_missing, has_global_default, has_op_default, repeats_default}
 
-pub op-push : (op : Op) (items : List Statement) (s : Statement) → length (op_defaults op (items ++ s ∷ [])) ≡ length (op_defaults op items) + length (op_defaults op (s ∷ []))
+op-push : (op : Op) (items : List Statement) (s : Statement) → length (op_defaults op (items ++ s ∷ [])) ≡ length (op_defaults op items) + length (op_defaults op (s ∷ []))
 op-push op items s =
     ap length (filter_map-append (op_default_of op) items (s ∷ [])) ∙ length-append (op_defaults op items) (op_defaults op (s ∷ []))
 
-pub global-push : (items : List Statement) (s : Statement) → length (global_defaults (items ++ s ∷ [])) ≡ length (global_defaults items) + length (global_defaults (s ∷ []))
+global-push : (items : List Statement) (s : Statement) → length (global_defaults (items ++ s ∷ [])) ≡ length (global_defaults items) + length (global_defaults (s ∷ []))
 global-push items s =
     ap length (filter_map-append global_default_of items (s ∷ [])) ∙ length-append (global_defaults items) (global_defaults (s ∷ []))
 
@@ -35,11 +35,6 @@ gives_no_global (Rule o properties action) e = refl
 gives_no_global (OpDefault o action) e = absurd (cc)
 gives_no_global (GlobalDefault action) e = absurd (cc)
 
-op_gives_no_global : (s : Statement) (op : Op) → given_of s ≡ OfOp op → length (global_defaults (s ∷ [])) ≡ 0
-op_gives_no_global (Rule o properties action) op e = absurd (cc)
-op_gives_no_global (OpDefault o action) op e = refl
-op_gives_no_global (GlobalDefault action) op e = absurd (cc)
-
 global_gives_no_op : (op : Op) (s : Statement) → given_of s ≡ Global → length (op_defaults op (s ∷ [])) ≡ 0
 global_gives_no_op op (Rule o properties action) e = absurd (cc)
 global_gives_no_op op (OpDefault o action) e = absurd (cc)
@@ -50,10 +45,10 @@ global_gives_one (Rule o properties action) e = absurd (cc)
 global_gives_one (OpDefault o action) e = absurd (cc)
 global_gives_one (GlobalDefault action) e = refl
 
-pub op_gives_one : (op other : Op) (action : Action) → op_number op ≡ op_number other → length (op_defaults op (OpDefault other action ∷ [])) ≡ 1
+op_gives_one : (op other : Op) (action : Action) → op_number op ≡ op_number other → length (op_defaults op (OpDefault other action ∷ [])) ≡ 1
 op_gives_one op other action e = rw (eq-eqb (op_number op) (op_number other) e)
 
-pub op_gives_none : (op other : Op) (action : Action) → (op_number op ≡ op_number other → ⊥) → length (op_defaults op (OpDefault other action ∷ [])) ≡ 0
+op_gives_none : (op other : Op) (action : Action) → (op_number op ≡ op_number other → ⊥) → length (op_defaults op (OpDefault other action ∷ [])) ≡ 0
 op_gives_none op other action e = rw (ne_eqb (op_number op) (op_number other) e)
 
 -- ---- what stays
@@ -152,10 +147,6 @@ not_found : {X : Type 0} (b : Bool) (x : X) (o : Option X) → cond b (Some x) o
 not_found true x o e = absurd (cc)
 not_found false x o e = (refl, e)
 
-given_again : (b : Bool) → not b ≡ false → b ≡ true
-given_again true e = refl
-given_again false e = cc
-
 all_given : (items : List Statement) → find (λ op. not (has_op_default op items)) operations ≡ None → (op : Op) → has_op_default op items ≡ true
 all_given items e =
     let one = not_found (not (has_op_default Execute items)) Execute _ e in
@@ -166,13 +157,13 @@ all_given items e =
     let six = not_found (not (has_op_default Policy items)) Policy _ five.1 in
     let seven = not_found (not (has_op_default X509Cert items)) X509Cert _ six.1 in
     λ op. elim op as (λ op. has_op_default op items ≡ true) [
-      | Execute ↦ given_again _ one.0
-      | Firmware ↦ given_again _ two.0
-      | Kmodule ↦ given_again _ three.0
-      | KexecImage ↦ given_again _ four.0
-      | KexecInitramfs ↦ given_again _ five.0
-      | Policy ↦ given_again _ six.0
-      | X509Cert ↦ given_again _ seven.0
+      | Execute ↦ not-false _ one.0
+      | Firmware ↦ not-false _ two.0
+      | Kmodule ↦ not-false _ three.0
+      | KexecImage ↦ not-false _ four.0
+      | KexecInitramfs ↦ not-false _ five.0
+      | Policy ↦ not-false _ six.0
+      | X509Cert ↦ not-false _ seven.0
     ]
 
 pub each-has-one : (items : List Statement) → first_missing items ≡ None → (op : Op) → 1 ≤ length (op_defaults op items) + length (global_defaults items)

@@ -1,6 +1,9 @@
 -- Texts that read as a policy are read as it, and no others are.
-use Rattle.std.proofs.Common.{◌≡◌, ℕ, suc, ◌≤◌, ◌⊎◌, inl, inr, Bool, true, false, cond, List, [], ◌∷◌, ◌++◌, length, map, filter, Option, Some, None, Result, Ok, Err, IfOk, IfErr, refl, sym, ◌∙◌, ap, arith, subst, append_assoc, append-nil, codes}
+use Rattle.std.proofs.Common.{◌≡◌, ℕ, ◌≤◌, ◌⊎◌, inl, inr, Bool, true, false, cond, List, [], ◌∷◌, ◌++◌, length, map, Option, Some, None, Result, Ok, Err, IfOk, IfErr, refl, sym, ◌∙◌, ap, arith, subst, append_assoc, append-nil, codes}
 use Rattle.std.specs.List.{AllZip}
+use Rattle.std.proofs.lemmas.List.{length-map}
+use Rattle.std.proofs.lemmas.List.Sums.{count_by-le-length, length-filter}
+use Rattle.std.proofs.lemmas.Slice.Zip.{AllZip-long}
 use Rattle.ipe_lex.proofs.Cuts.{either}
 use Rattle.ipe_lex.specs.Lines.{lines_of, placed_lines}
 use Rattle.ipe_policy.specs.declared.op.Op.{Op}
@@ -176,31 +179,18 @@ lines-spelled (line ∷ lines) policy e =
 
 -- ---- a text has at most as many statements as bytes
 
--- a part of a list is no longer than the list
-filter-few : {X : Type 0} (p : X → Bool) (xs : List X) → length (filter p xs) ≤ length xs
-filter-few p [] = omega arith
-filter-few p (x ∷ xs) = elim (either (p x)) [
-  | inl kept ↦ rw kept (omega (arith, filter-few p xs))
-  | inr dropped ↦ rw dropped (omega (arith, filter-few p xs))
-]
-
--- a mapped list is as long
-length-on : {X Y : Type 0} (f : X → Y) (xs : List X) → length (map f xs) ≡ length xs
-length-on f [] = refl
-length-on f (x ∷ xs) = ap suc (length-on f xs)
-
--- as many statements as lines that spell them
-as-many : (lines : List (List (List ℕ))) (items : List Statement) → AllZip SpellsStatement lines items → length items ≡ length lines
-as-many [] [] h = refl
-as-many [] (item ∷ items) h = absurd h
-as-many (line ∷ lines) [] h = absurd h
-as-many (line ∷ lines) (item ∷ items) h = ap suc (as-many lines items h.1)
-
 -- a text has at most as many lines with tokens as bytes
 spoken-few : (text : List ℕ) → length (spoken_lines text) ≤ length text
 spoken-few text =
     let placed = placed_lines 1 0 (lines_of text) in
-    omega (arith, ap length (spoken_lines-placed text), filter-few is_spoken (map spoken_of placed), length-on spoken_of placed, placed_lines-few text)
+    omega (
+      arith,
+      ap length (spoken_lines-placed text),
+      length-filter is_spoken (map spoken_of placed),
+      count_by-le-length is_spoken (map spoken_of placed),
+      length-map placed spoken_of,
+      placed_lines-few text,
+    )
 
 -- a text whose lines say a policy reads as it
 reads-by : (text : List ℕ) (policy : PolicyParts) → length text ≤ 1048576 → Says (spoken_lines text) policy → Reads text policy
@@ -213,7 +203,13 @@ reads-by text policy small says = record {
   version = says.spelled.version ∙ ap (λ (v : Version). Some v) says.version;
   statements = says.each;
   keeps_rules = record {
-    few = omega (arith, spoken-few text, ap length says.cut, as-many (tokens_on says.lines) policy.items says.each, length-on (λ (line : SpokenLine). line.tokens) says.lines);
+    few = omega (
+      arith,
+      spoken-few text,
+      ap length says.cut,
+      AllZip-long SpellsStatement (tokens_on says.lines) policy.items says.each,
+      length-map says.lines (λ (line : SpokenLine). line.tokens),
+    );
     global_once = says.once.global_once;
     op_once = says.once.op_once;
     each_has_one = each-has-one policy.items says.complete;
@@ -234,7 +230,7 @@ not-both : (read : Result PolicyParts BadText) (policy : PolicyParts) (fault : B
 not-both read policy fault e h = cc
 
 -- a text that is read as a policy reads as it and as no other
-pub reads-as-one : (text : List ℕ) (policy : PolicyParts) → length text ≤ 1048576 → reading text ≡ Ok policy → ReadsAsOne text policy
+reads-as-one : (text : List ℕ) (policy : PolicyParts) → length text ≤ 1048576 → reading text ≡ Ok policy → ReadsAsOne text policy
 reads-as-one text policy small e = record {
   reads = is-spelled text policy small e;
   alone = λ other h. one-value (reading text) policy other e (is-read text other h);
@@ -242,7 +238,7 @@ reads-as-one text policy small e = record {
 }
 
 -- a text of which a fault is read reads as no policy
-pub has-fault : (text : List ℕ) (fault : BadText) → reading text ≡ Err fault → HasFault text fault
+has-fault : (text : List ℕ) (fault : BadText) → reading text ≡ Err fault → HasFault text fault
 has-fault text fault e = record {
   first = e;
   unread = λ policy h. not-both (reading text) policy fault (is-read text policy h) e;

@@ -1,5 +1,5 @@
 -- Tokens that spell properties are read as them, and no others are.
-use Rattle.std.proofs.Common.{◌≡◌, ℕ, suc, ◌⊎◌, inl, inr, ⊎_elim, true, false, cond, List, [], ◌∷◌, ◌++◌, length, drop, codes, Option, Some, None, Result, Ok, ok_or, option_map, refl, sym, ◌∙◌, ap, subst}
+use Rattle.std.proofs.Common.{◌≡◌, ℕ, ◌⊎◌, inl, inr, ⊎_elim, true, false, cond, List, [], ◌∷◌, ◌++◌, drop, codes, Option, Some, None, Result, Ok, ok_or, option_map, refl, sym, ◌∙◌, ap, subst}
 use Rattle.std.specs.List.{AllZip}
 use Rattle.ipe_policy.specs.declared.statement.Digest.{Digest}
 use Rattle.ipe_policy.specs.declared.statement.Property.{Property}
@@ -14,7 +14,7 @@ use Rattle.ipe_parse.proofs.Spells.{begins-is, text-is}
 use Rattle.ipe_parse.proofs.Digests.{digest-read, digest-spelled}
 
 -- a token that spells a property is read as it
-pub property-read : (token : List ℕ) (property : Property) → SpellsProperty token property → property_of token ≡ Ok property
+property-read : (token : List ℕ) (property : Property) → SpellsProperty token property → property_of token ≡ Ok property
 property-read token (BootVerified true) h = ap property_of h
 property-read token (BootVerified false) h = ap property_of h
 property-read token (DmverityRoothash digest) h =
@@ -70,7 +70,7 @@ or_else-cases (Some x) other property e = inl (cc)
 or_else-cases None other property e = inr e
 
 -- a token that is read as a property spells it
-pub property-spelled : (token : List ℕ) (property : Property) → property_of token ≡ Ok property → SpellsProperty token property
+property-spelled : (token : List ℕ) (property : Property) → property_of token ≡ Ok property → SpellsProperty token property
 property-spelled token property e =
     ⊎_elim (truth-spelled token property) (digest_property-spelled token property)
     (or_else-cases (truth_property_of token) (digest_property_of token) property e)
@@ -92,10 +92,3 @@ properties-spelled (token ∷ tokens) properties e =
     let more = then-parts (properties_of tokens) (λ (others : List Property). Ok (one.0 ∷ others)) properties one.2 in
     subst (λ (ps : List Property). AllZip SpellsProperty (token ∷ tokens) ps) (same-ok (one.0 ∷ more.0) properties more.2)
     (property-spelled token one.0 one.1, properties-spelled tokens more.0 more.1)
-
--- as many tokens as properties
-pub as-many : (tokens : List (List ℕ)) (properties : List Property) → AllZip SpellsProperty tokens properties → length tokens ≡ length properties
-as-many [] [] h = refl
-as-many [] (property ∷ properties) h = absurd h
-as-many (token ∷ tokens) [] h = absurd h
-as-many (token ∷ tokens) (property ∷ properties) h = ap suc (as-many tokens properties h.1)

@@ -1,8 +1,10 @@
 -- Lines that spell statements or a header are read as them, and no others are.
-use Rattle.std.proofs.Common.{◌≡◌, ℕ, suc, ◌-◌, ◌≤◌, ⊎_elim, Bool, true, false, cond, leb, List, [], ◌∷◌, ◌++◌, length, take, drop, codes, slice_get, Option, Some, None, Result, Ok, Err, ok_or, refl, sym, ◌∙◌, ap, subst, arith, option_and_then, length-append, le-leb, leb-true}
+use Rattle.std.proofs.Common.{◌≡◌, ℕ, suc, ◌-◌, ◌≤◌, ⊎_elim, Bool, true, cond, leb, List, [], ◌∷◌, ◌++◌, length, take, drop, codes, slice_get, Option, Some, Result, Ok, Err, ok_or, refl, sym, ◌∙◌, ap, subst, arith, option_and_then, length-append, le-leb, leb-true}
 use Rattle.std.specs.List.{AllZip}
 use Rattle.std.proofs.lemmas.Bool.{and_parts}
 use Rattle.std.proofs.lemmas.Option.{option_and_then_some}
+use Rattle.std.proofs.lemmas.Slice.Zip.{AllZip-long}
+use Rattle.std.proofs.Math.Seq.{take-append_seam}
 use Rattle.ipe_policy.specs.declared.op.Op.{Op}
 use Rattle.ipe_policy.specs.declared.op.Action.{Action}
 use Rattle.ipe_policy.specs.declared.op.Action.TheVariants.{Allow, Deny}
@@ -18,27 +20,28 @@ use Rattle.ipe_parse.specs.declared.error.BadKind.{BadKind}
 use Rattle.ipe_parse.specs.declared.error.BadKind.TheVariants.{NoHeader, BadName, BadVersion, BadOp, BadAction, PropertyInDefault, TooManyProperties}
 use Rattle.ipe_parse.specs.Tokens.{◌>>=◌, action_named, begins, default_of, header_of, header_parts, last_action, lone_action, op_named, op_of, properties_of, rule_of_line, statement_of}
 use Rattle.ipe_parse.specs.Reads.{SpellsProperty, SpellsStatement}
-use Rattle.ipe_parse.proofs.Steps.{ok_or-parts, passed, same-ok, split, then-ok, then-parts, held}
+use Rattle.ipe_parse.proofs.Steps.{held, ok_or-parts, passed, same-ok, split, then-ok, then-parts, there}
 use Rattle.ipe_parse.proofs.Spells.{action_named-is, action_named-token, begins-is, op_named-is, op_named-word, text-is}
-use Rattle.ipe_parse.proofs.SpelledProperties.{as-many, properties-read, properties-spelled}
+use Rattle.ipe_parse.proofs.SpelledProperties.{properties-read, properties-spelled}
 
 -- ---- the last token
 
+-- the number of the elements before the last one
+length-before : {X : Type 0} (xs : List X) (x : X) → length (xs ++ x ∷ []) - 1 ≡ length xs
+length-before xs x = omega (arith, length-append xs (x ∷ []))
+
+-- the element behind a list
+behind-is : {X : Type 0} (xs : List X) (x : X) → slice_get (xs ++ x ∷ []) (length xs) ≡ Some x
+behind-is [] x = refl
+behind-is (y ∷ xs) x = behind-is xs x
+
 -- the last element is the one behind the others
 last-is : {X : Type 0} (xs : List X) (x : X) → slice_get (xs ++ x ∷ []) (length (xs ++ x ∷ []) - 1) ≡ Some x
-last-is [] x = refl
-last-is (y ∷ []) x = refl
-last-is (y ∷ z ∷ zs) x =
-    let later : length (y ∷ z ∷ zs ++ x ∷ []) - 1 ≡ suc (length (z ∷ zs ++ x ∷ []) - 1) = omega arith in
-    ap (slice_get (y ∷ z ∷ zs ++ x ∷ [])) later ∙ last-is (z ∷ zs) x
+last-is xs x = ap (slice_get (xs ++ x ∷ [])) (length-before xs x) ∙ behind-is xs x
 
 -- what stands before the last element
 front-is : {X : Type 0} (xs : List X) (x : X) → take (length (xs ++ x ∷ []) - 1) (xs ++ x ∷ []) ≡ xs
-front-is [] x = refl
-front-is (y ∷ []) x = refl
-front-is (y ∷ z ∷ zs) x =
-    let later : length (y ∷ z ∷ zs ++ x ∷ []) - 1 ≡ suc (length (z ∷ zs ++ x ∷ []) - 1) = omega arith in
-    ap (λ (n : ℕ). take n (y ∷ z ∷ zs ++ x ∷ [])) later ∙ ap (λ (rest : List _). y ∷ rest) (front-is (z ∷ zs) x)
+front-is xs x = ap (λ (n : ℕ). take n (xs ++ x ∷ [])) (length-before xs x) ∙ take-append_seam xs (x ∷ [])
 
 -- a list with a last element is what stands before it, and it
 front-and-last : {X : Type 0} (xs : List X) (x : X) → slice_get xs (length xs - 1) ≡ Some x → xs ≡ take (length xs - 1) xs ++ x ∷ []
@@ -80,7 +83,7 @@ lone-spelled tokens action e =
 
 -- at most sixteen properties and an action are at most seventeen tokens
 few-enough : (words : List (List ℕ)) (properties : List Property) (token : List ℕ) → AllZip SpellsProperty words properties → length properties ≤ 16 → leb (length (words ++ token ∷ [])) 17 ≡ true
-few-enough words properties token each few = le-leb _ _ (omega (arith, length-append words (token ∷ []), as-many words properties each))
+few-enough words properties token each few = le-leb _ _ (omega (arith, length-append words (token ∷ []), AllZip-long SpellsProperty words properties each))
 
 -- the tokens of a rule are read as it
 rule-read : (op : Op) (words : List (List ℕ)) (properties : List Property) (action : Action) → AllZip SpellsProperty words properties → length properties ≤ 16
@@ -149,10 +152,6 @@ op_of-spelled : (token : List ℕ) (op : Op) → op_of token ≡ Some op → tok
 op_of-spelled token op e =
     let both = there (begins (codes "op=") token) (op_named (drop 3 token)) op e in
     op-spelled token op both.0 both.1
-  where
-    there : {X : Type 0} (b : Bool) (o : Option X) (x : X) → cond b o None ≡ Some x → (b ≡ true) × (o ≡ Some x)
-    there true o x e = (refl, e)
-    there false o x e = absurd (cc)
 
 -- the parts of a rule that are read spell it
 rule-spelled-by : (first : List ℕ) (others : List (List ℕ)) (op : Op) (action : Action) (properties : List Property) → first ≡ op_token op → others ≡ take (length others - 1) others ++ action_token action ∷ []
@@ -163,7 +162,7 @@ rule-spelled-by first others op action properties first_is others_is few read =
       words,
       ap (λ (t : List ℕ). t ∷ others) first_is ∙ ap (λ (ts : List (List ℕ)). op_token op ∷ ts) others_is,
       each,
-      omega (arith, ap length others_is, length-append words (action_token action ∷ []), as-many words properties each),
+      omega (arith, ap length others_is, length-append words (action_token action ∷ []), AllZip-long SpellsProperty words properties each),
     )
 
 -- the rule of an operation, its other tokens and an action

@@ -35,6 +35,11 @@ pub passed : {X E : Type 0} (b : Bool) (o : Result X E) (error : E) (y : X) → 
 passed true o error y e = (refl, e)
 passed false o error y e = absurd (cc)
 
+-- the test of an option that is there held
+pub there : {X : Type 0} (b : Bool) (o : Option X) (x : X) → cond b o None ≡ Some x → (b ≡ true) × (o ≡ Some x)
+there true o x e = (refl, e)
+there false o x e = absurd (cc)
+
 -- one of two readings was taken
 pub split : {X E : Type 0} (b : Bool) (one other : Result X E) (y : X) → cond b one other ≡ Ok y → ((b ≡ true) × (one ≡ Ok y)) ⊎ ((b ≡ false) × (other ≡ Ok y))
 split true one other y e = inl (refl, e)

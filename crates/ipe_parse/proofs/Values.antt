@@ -32,7 +32,7 @@ part-read text n low high digits value small =
     rw (value, le-leb 1 (length text) low, le-leb (length text) 5 high, digits, le-leb n 65535 small)
 
 -- a number below 65,536 is read as a part of a version
-pub part_of-decimal : (n : ℕ) → n < 65536 → part_of (decimal n) ≡ Some n
+part_of-decimal : (n : ℕ) → n < 65536 → part_of (decimal n) ≡ Some n
 part_of-decimal n h =
     let some : 0 < length (decimal n) = decimal_nonempty n (omega arith) in
     let few : length (decimal n) ≤ 5 = length-decimal-le 5 n (omega arith) (omega arith) (omega arith) in
