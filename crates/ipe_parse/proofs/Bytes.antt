@@ -83,7 +83,8 @@ tokens_of-joined (word ∷ next ∷ words) h =
     ∙ ap (λ (r : List (List ℕ)). word ∷ r) (tokens_of-joined (next ∷ words) h.1)
 
 -- words parted by one blank pass a test that each byte of a word passes, and the blank
-joined-all : (p : ℕ → Bool) → ((byte : ℕ) → is_plain byte ≡ true → p byte ≡ true) → p 32 ≡ true → (words : List (List ℕ)) → AllByRecursion IsWord words → list_all p (joined words) ≡ true
+joined-all : (p : ℕ → Bool) → ((byte : ℕ) → is_plain byte ≡ true → p byte ≡ true) → p 32 ≡ true
+    → (words : List (List ℕ)) → AllByRecursion IsWord words → list_all p (joined words) ≡ true
 joined-all p weaker blank [] h = refl
 joined-all p weaker blank (word ∷ []) h = all-weaker is_plain p weaker word h.0.plain
 joined-all p weaker blank (word ∷ next ∷ words) h =
@@ -101,11 +102,13 @@ plain-no_line_feed byte h = grind (arith, nat_tests)
 -- a line of words, read back as its words
 pub line-words : (words : List (List ℕ)) → AllByRecursion IsWord words → tokens_of (uncommented (joined words)) ≡ words
 line-words words h =
-    ap tokens_of (before-none is_comment_sign (joined words) (joined-all (λ byte. not (is_comment_sign byte)) plain-no_comment refl words h))
+    let apart = joined-all (λ byte. not (is_comment_sign byte)) plain-no_comment refl words h in
+    ap tokens_of (before-none is_comment_sign (joined words) apart)
     ∙ tokens_of-joined words h
 
 -- a line of words is the first line of a text
-pub line-first : (words : List (List ℕ)) (rest : List ℕ) → AllByRecursion IsWord words → lines_of ((joined words ++ 10 ∷ []) ++ rest) ≡ joined words ∷ lines_of rest
+pub line-first : (words : List (List ℕ)) (rest : List ℕ) → AllByRecursion IsWord words
+    → lines_of ((joined words ++ 10 ∷ []) ++ rest) ≡ joined words ∷ lines_of rest
 line-first words rest h =
     ap lines_of (append_assoc (joined words) (10 ∷ []) rest)
     ∙ lines-at (joined words) rest (joined-all (λ byte. not (is_line_feed byte)) plain-no_line_feed refl words h)

@@ -21,7 +21,8 @@ colon-cut : (word : List ℕ) → (after_first is_colon word ≡ []) ⊎ (word �
 colon-cut word = elim (cases_lt (position_or_len is_colon word) (length word)) [
   | inl within ↦ inr (
       split_at_first is_colon word 0 within
-      ∙ ap (λ (byte : ℕ). before_first is_colon word ++ byte ∷ after_first is_colon word) (eqb-true _ 58 (passes_at_first is_colon word 0 within)))
+      ∙ ap (λ (byte : ℕ). before_first is_colon word ++ byte ∷ after_first is_colon word)
+      (eqb-true _ 58 (passes_at_first is_colon word 0 within)))
   | inr beyond ↦ inl (drop_of_length-le word (omega arith))
 ]
 
@@ -39,7 +40,8 @@ pub digest-read : (word : List ℕ) (digest : Digest) → SpellsDigest word dige
 digest-read word digest h =
     let apart = all-weaker is_alg_byte (λ byte. not (is_colon byte)) no-colon digest.alg (alg-bytes digest.alg h.alg) in
     ap digest_of (h.whole ∙ append_assoc digest.alg (codes ":") h.digits)
-    ∙ read-digest digest.alg h.digits digest.bytes _ _ (before-at is_colon digest.alg 58 h.digits apart refl) (after-at is_colon digest.alg 58 h.digits apart refl) h.alg h.bytes
+    ∙ read-digest digest.alg h.digits digest.bytes _ _ (before-at is_colon digest.alg 58 h.digits apart refl)
+    (after-at is_colon digest.alg 58 h.digits apart refl) h.alg h.bytes
 
 -- a name, a colon and digits spell a digest
 spelled : (word alg digits bytes : List ℕ) (digest : Digest) → word ≡ alg ++ 58 ∷ digits → is_alg_name alg ≡ true → hex_bytes digits ≡ Some bytes

@@ -1,27 +1,19 @@
 -- The flags of a draft after one more statement.
-use Rattle.std.proofs.Common.{◌≡◌, ℕ, ◌+◌, ◌<◌, ◌≤◌, inl, inr, Bool, true, false, not, cond, ltb, Option, Some, None, drop, add-one, List, [], ◌∷◌, ◌++◌, length, get_or, set, refl, sym, ◌∙◌, ap, arith, length-append, length-set, get_or-set_same, get_or-set_other}
+use Rattle.std.proofs.Common.{◌≡◌, ℕ, ◌+◌, ◌<◌, ◌≤◌, inl, inr, Bool, true, false, not, cond, ltb, Option, Some, None, drop, add-one, List, [], ◌∷◌, ◌++◌, length, get_or, set, refl, sym, ◌∙◌, arith, length-set, get_or-set_same, get_or-set_other}
 use Rattle.std.specs.List.{find}
 use Rattle.std.proofs.Math.Seq.{drop-cons}
-use Rattle.std.proofs.lemmas.List.Elements.{filter_map-append}
 use Rattle.std.proofs.lemmas.Bool.{not-false, cases_eq, eq-eqb, ne_eqb, ltb-false, ltb-true, lt-ltb, le-ltb, cases_lt}
 use Rattle.ipe_policy.specs.declared.op.Op.{Op}
 use Rattle.ipe_policy.specs.declared.op.Op.TheVariants.{Execute, Firmware, Kmodule, KexecImage, KexecInitramfs, Policy, X509Cert}
 use Rattle.ipe_policy.specs.declared.op.Action.{Action}
 use Rattle.ipe_policy.specs.declared.statement.Statement.{Statement}
 use Rattle.ipe_policy.specs.declared.statement.Statement.TheVariants.{Rule, OpDefault, GlobalDefault}
-use Rattle.ipe_policy.specs.Statement.{op_number, op_default_of, global_default_of, operations}
+use Rattle.ipe_policy.specs.Statement.{op_number, operations}
 use Rattle.ipe_policy.specs.Policy.{op_defaults, global_defaults}
 use Rattle.ipe_parse.specs.declared.given.Given.TheVariants.{Nothing, OfOp, Global}
 use Rattle.ipe_parse.specs.Given.{given_of}
+use Rattle.ipe_parse.proofs.Defaults.{global-append, op-append}
 use Rattle.ipe_parse.specs.Defaults.{Flags, IsOnce, first_missing, has_global_default, has_op_default, repeats_default}
-
-op-push : (op : Op) (items : List Statement) (s : Statement) → length (op_defaults op (items ++ s ∷ [])) ≡ length (op_defaults op items) + length (op_defaults op (s ∷ []))
-op-push op items s =
-    ap length (filter_map-append (op_default_of op) items (s ∷ [])) ∙ length-append (op_defaults op items) (op_defaults op (s ∷ []))
-
-global-push : (items : List Statement) (s : Statement) → length (global_defaults (items ++ s ∷ [])) ≡ length (global_defaults items) + length (global_defaults (s ∷ []))
-global-push items s =
-    ap length (filter_map-append global_default_of items (s ∷ [])) ∙ length-append (global_defaults items) (global_defaults (s ∷ []))
 
 -- ---- which defaults one statement gives
 
@@ -62,15 +54,15 @@ some_count n m k e one = sym (lt-ltb 0 n (omega arith))
 pub Flags-nothing : (ops : List Bool) (given : Bool) (items : List Statement) (s : Statement) → given_of s ≡ Nothing → Flags ops given items → Flags ops given (items ++ s ∷ [])
 Flags-nothing ops given items s e flags = record {
   seven = flags.seven;
-  of_op = λ op. flags.of_op op ∙ same_count _ _ _ (op-push op items s) (gives_no_op op s e);
-  of_global = flags.of_global ∙ same_count _ _ _ (global-push items s) (gives_no_global s e);
+  of_op = λ op. flags.of_op op ∙ same_count _ _ _ (op-append op items (s ∷ [])) (gives_no_op op s e);
+  of_global = flags.of_global ∙ same_count _ _ _ (global-append items (s ∷ [])) (gives_no_global s e);
 }
 
 pub Flags-global : (ops : List Bool) (given : Bool) (items : List Statement) (s : Statement) → given_of s ≡ Global → Flags ops given items → Flags ops true (items ++ s ∷ [])
 Flags-global ops given items s e flags = record {
   seven = flags.seven;
-  of_op = λ op. flags.of_op op ∙ same_count _ _ _ (op-push op items s) (global_gives_no_op op s e);
-  of_global = some_count _ _ _ (global-push items s) (global_gives_one s e);
+  of_op = λ op. flags.of_op op ∙ same_count _ _ _ (op-append op items (s ∷ [])) (global_gives_no_op op s e);
+  of_global = some_count _ _ _ (global-append items (s ∷ [])) (global_gives_one s e);
 }
 
 op_below : (op : Op) → op_number op < 7
@@ -86,8 +78,8 @@ of_op-marked : (ops : List Bool) (given : Bool) (items : List Statement) (other 
     → get_or (set ops (op_number other) true) (op_number op) false ≡ has_op_default op (items ++ OpDefault other action ∷ [])
 of_op-marked ops given items other action flags op =
     elim (cases_eq (op_number op) (op_number other)) [
-      | inl same ↦ rw same (get_or-set_same ops (op_number other) true false (omega (arith, flags.seven, op_below other)) ∙ some_count _ _ _ (op-push op items (OpDefault other action)) (op_gives_one op other action same))
-      | inr apart ↦ get_or-set_other ops (op_number other) (op_number op) true false apart ∙ flags.of_op op ∙ same_count _ _ _ (op-push op items (OpDefault other action)) (op_gives_none op other action apart)
+      | inl same ↦ rw same (get_or-set_same ops (op_number other) true false (omega (arith, flags.seven, op_below other)) ∙ some_count _ _ _ (op-append op items (OpDefault other action ∷ [])) (op_gives_one op other action same))
+      | inr apart ↦ get_or-set_other ops (op_number other) (op_number op) true false apart ∙ flags.of_op op ∙ same_count _ _ _ (op-append op items (OpDefault other action ∷ [])) (op_gives_none op other action apart)
     ]
 
 pub Flags-of_op : (ops : List Bool) (given : Bool) (items : List Statement) (s : Statement) (op : Op) → given_of s ≡ OfOp op → Flags ops given items → Flags (set ops (op_number op) true) given (items ++ s ∷ [])
@@ -98,7 +90,7 @@ Flags-of_op ops given items (OpDefault other action) op e flags =
     record {
       seven = length-set ops (op_number op) true ∙ flags.seven;
       of_op = rw (← same) (of_op-marked ops given items other action flags);
-      of_global = flags.of_global ∙ same_count _ _ _ (global-push items (OpDefault other action)) refl;
+      of_global = flags.of_global ∙ same_count _ _ _ (global-append items (OpDefault other action ∷ [])) refl;
     }
 
 -- ---- no default twice
@@ -114,22 +106,22 @@ once-op items other action free once op =
     elim (cases_eq (op_number op) (op_number other)) [
       | inl same ↦
           let none : length (op_defaults op items) ≡ 0 = rw (op_defaults-same op other items same) (omega (arith, ltb-false 0 (length (op_defaults other items)) free)) in
-          omega (arith, op-push op items (OpDefault other action), op_gives_one op other action same)
-      | inr apart ↦ omega (arith, once op, op-push op items (OpDefault other action), op_gives_none op other action apart)
+          omega (arith, op-append op items (OpDefault other action ∷ []), op_gives_one op other action same)
+      | inr apart ↦ omega (arith, once op, op-append op items (OpDefault other action ∷ []), op_gives_none op other action apart)
     ]
 
 pub IsOnce-push : (items : List Statement) (s : Statement) → repeats_default items s ≡ false → IsOnce items → IsOnce (items ++ s ∷ [])
 IsOnce-push items (Rule o properties action) free once = record {
-  op_once = λ op. omega (arith, once.op_once op, op-push op items (Rule o properties action));
-  global_once = omega (arith, once.global_once, global-push items (Rule o properties action));
+  op_once = λ op. omega (arith, once.op_once op, op-append op items (Rule o properties action ∷ []));
+  global_once = omega (arith, once.global_once, global-append items (Rule o properties action ∷ []));
 }
 IsOnce-push items (OpDefault other action) free once = record {
   op_once = once-op items other action free once.op_once;
-  global_once = omega (arith, once.global_once, global-push items (OpDefault other action));
+  global_once = omega (arith, once.global_once, global-append items (OpDefault other action ∷ []));
 }
 IsOnce-push items (GlobalDefault action) free once = record {
-  op_once = λ op. omega (arith, once.op_once op, op-push op items (GlobalDefault action));
-  global_once = omega (arith, ltb-false 0 (length (global_defaults items)) free, global-push items (GlobalDefault action));
+  op_once = λ op. omega (arith, once.op_once op, op-append op items (GlobalDefault action ∷ []));
+  global_once = omega (arith, ltb-false 0 (length (global_defaults items)) free, global-append items (GlobalDefault action ∷ []));
 }
 
 -- ---- the first operation that has no default

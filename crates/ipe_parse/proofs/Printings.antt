@@ -126,7 +126,8 @@ header-words name version n v = (
 -- ---- what the tokens spell
 
 -- what is made of each element has a relation to it
-pub each-made : {X Y : Type 0} (make : X → Y) (P : X → Type 0) (R : Y → X → Type 0) → ((x : X) → P x → R (make x) x) → (xs : List X) → AllByRecursion P xs → AllZip R (map make xs) xs
+pub each-made : {X Y : Type 0} (make : X → Y) (P : X → Type 0) (R : Y → X → Type 0) → ((x : X) → P x → R (make x) x)
+    → (xs : List X) → AllByRecursion P xs → AllZip R (map make xs) xs
 each-made make P R one [] h = tt
 each-made make P R one (x ∷ xs) h = (one x h.0, each-made make P R one xs h.1)
 
@@ -140,7 +141,8 @@ digest-spells digest h = record {
 }
 
 -- the token of a property spells it
-property-spells : (property : Property) → IsPrintableProperty property → SpellsProperty (property_token property) property
+property-spells : (property : Property) → IsPrintableProperty property
+    → SpellsProperty (property_token property) property
 property-spells (BootVerified wanted) h = refl
 property-spells (DmverityRoothash digest) h = (digest_word digest, refl, digest-spells digest h)
 property-spells (DmveritySignature wanted) h = refl
@@ -148,8 +150,10 @@ property-spells (FsverityDigest digest) h = (digest_word digest, refl, digest-sp
 property-spells (FsveritySignature wanted) h = refl
 
 -- the tokens of a statement spell it
-pub statement-spells : (statement : Statement) → IsPrintableStatement statement → SpellsStatement (statement_tokens statement) statement
+pub statement-spells : (statement : Statement) → IsPrintableStatement statement
+    → SpellsStatement (statement_tokens statement) statement
 statement-spells (Rule op properties action) h =
-    (map property_token properties, refl, each-made property_token IsPrintableProperty SpellsProperty property-spells properties h.each, h.few)
+    let each = each-made property_token IsPrintableProperty SpellsProperty property-spells properties h.each in
+    (map property_token properties, refl, each, h.few)
 statement-spells (OpDefault op action) h = refl
 statement-spells (GlobalDefault action) h = refl

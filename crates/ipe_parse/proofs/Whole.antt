@@ -28,10 +28,12 @@ abbrev spoken : List (ℕ × List ℕ) → List SpokenLine
 spoken lines = filter is_spoken (map (λ (line : ℕ × List ℕ). record { number = line.0; tokens = tokens_of (uncommented line.1) }) lines)
 
 -- the words of lines are their tokens
-text-tokens : (number : ℕ) (lines : List (List (List ℕ))) → AllByRecursion IsLine lines → tokens_on (spoken (enumerate_from number (lines_of (text_of lines)))) ≡ lines
+text-tokens : (number : ℕ) (lines : List (List (List ℕ))) → AllByRecursion IsLine lines
+    → tokens_on (spoken (enumerate_from number (lines_of (text_of lines)))) ≡ lines
 text-tokens number [] h = refl
 text-tokens number (line ∷ lines) h =
-    ap (λ (cut : List (List ℕ)). tokens_on (spoken (enumerate_from number cut))) (line-first line (text_of lines) h.0.words)
+    ap (λ (cut : List (List ℕ)). tokens_on (spoken (enumerate_from number cut)))
+    (line-first line (text_of lines) h.0.words)
     ∙ rw (line-words line h.0.words, lt-ltb 0 (length line) h.0.some, text-tokens (number + 1) lines h.1)
 
 -- the lines of a policy, as their tokens
@@ -45,15 +47,18 @@ statement-some (OpDefault op action) = omega arith
 statement-some (GlobalDefault action) = omega arith
 
 -- each statement is a line of words
-statements-lines : (items : List Statement) → AllByRecursion IsPrintableStatement items → AllByRecursion IsLine (map statement_tokens items)
+statements-lines : (items : List Statement) → AllByRecursion IsPrintableStatement items
+    → AllByRecursion IsLine (map statement_tokens items)
 statements-lines [] h = tt
 statements-lines (item ∷ items) h =
     (record { words = statement-words item h.0; some = statement-some item }, statements-lines items h.1)
 
 -- printed statements are their tokens' lines
-statements-text : (items : List Statement) → flat_map (λ statement. statement_text statement ++ 10 ∷ []) items ≡ text_of (map statement_tokens items)
+statements-text : (items : List Statement)
+    → flat_map (λ statement. statement_text statement ++ 10 ∷ []) items ≡ text_of (map statement_tokens items)
 statements-text [] = refl
-statements-text (item ∷ items) = ap (λ (rest : List ℕ). (statement_text item ++ 10 ∷ []) ++ rest) (statements-text items)
+statements-text (item ∷ items) =
+    ap (λ (rest : List ℕ). (statement_text item ++ 10 ∷ []) ++ rest) (statements-text items)
 
 -- a printed policy is its lines
 policy-text : (policy : PolicyParts) → policy_text policy ≡ text_of (policy_lines policy)
@@ -64,16 +69,19 @@ policy-text policy =
 
 -- a printed policy reads as itself
 printed-reads : (policy : PolicyParts) → IsPrintable policy → Reads (policy_text policy) policy
-printed-reads policy h = record {
-  version_word = version_text policy.version;
-  lines = map statement_tokens policy.items;
-  whole = ap (λ (text : List ℕ). tokens_on (spoken_lines text)) (policy-text policy)
-      ∙ text-tokens 1 (policy_lines policy) (record { words = header-words policy.name policy.version h.name h.version; some = omega arith }, statements-lines policy.items h.statements);
-  name = h.name;
-  version = version_of-text policy.version h.version;
-  statements = each-made statement_tokens IsPrintableStatement SpellsStatement statement-spells policy.items h.statements;
-  keeps_rules = h.is_policy;
-}
+printed-reads policy h =
+    let words = header-words policy.name policy.version h.name h.version in
+    let lines = statements-lines policy.items h.statements in
+    record {
+      version_word = version_text policy.version;
+      lines = map statement_tokens policy.items;
+      whole = ap (λ (text : List ℕ). tokens_on (spoken_lines text)) (policy-text policy)
+          ∙ text-tokens 1 (policy_lines policy) (record { words = words; some = omega arith }, lines);
+      name = h.name;
+      version = version_of-text policy.version h.version;
+      statements = each-made _ IsPrintableStatement SpellsStatement statement-spells policy.items h.statements;
+      keeps_rules = h.is_policy;
+    }
 
 -- a printed policy is read as itself
 pub policy-read : (policy : PolicyParts) → IsPrintable policy → reading (policy_text policy) ≡ Ok policy
