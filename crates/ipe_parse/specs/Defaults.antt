@@ -1,5 +1,5 @@
 -- Which defaults some statements give.
-use Rattle.std.specs.Prelude.{◌≡◌, ℕ, ◌≤◌, Bool, true, false, not, nat_lt, if◌then◌else◌, List, length, slice_index_or, Option, None}
+use Rattle.std.specs.Prelude.{◌≡◌, ◌≤◌, Bool, false, not, nat_lt, if◌then◌else◌, List, length, slice_index_or, Option, None}
 use Rattle.std.specs.List.{find}
 use Rattle.ipe_policy.specs.declared.op.Op.{Op}
 use Rattle.ipe_policy.specs.declared.statement.Statement.{Statement}

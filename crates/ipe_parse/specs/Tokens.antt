@@ -12,7 +12,6 @@ use Rattle.ipe_policy.specs.declared.statement.Property.{Property}
 use Rattle.ipe_policy.specs.declared.statement.Property.TheVariants.{BootVerified, DmverityRoothash, DmveritySignature, FsverityDigest, FsveritySignature}
 use Rattle.ipe_policy.specs.declared.statement.Statement.{Statement}
 use Rattle.ipe_policy.specs.declared.statement.Statement.TheVariants.{Rule, OpDefault, GlobalDefault}
-use Rattle.ipe_policy.specs.declared.version.Version.{Version}
 use Rattle.ipe_policy.specs.Words.{is_text, is_alg_name, is_name}
 use Rattle.ipe_policy.specs.Version.{version_of}
 use Rattle.ipe_policy.specs.Statement.{operations}

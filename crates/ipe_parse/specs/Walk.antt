@@ -1,5 +1,5 @@
 -- What the functions that go over the lines of a text have left to read.
-use Rattle.std.specs.Prelude.{◌≡◌, ◌<◌, ℕ, List, [], ◌∷◌, length, map, filter, Option, Some, None}
+use Rattle.std.specs.Prelude.{◌≡◌, ◌<◌, List, [], ◌∷◌, length, map, filter, Option, Some, None}
 use Rattle.ipe_lex.specs.Lines.{PlacedLine, tokens_of}
 use Rattle.ipe_lex.specs.Walks.{lines_left}
 use Rattle.ipe_lex.specs.declared.line_walk.LineWalk.{LineWalk}
