@@ -1,5 +1,5 @@
 -- A request file, line by line.
-use Rattle.std.proofs.Common.{◌≡◌, ℕ, ◌+◌, ◌<◌, ◌≤◌, Bool, true, false, cond, not, ltb, ◌==◌, ◌&&◌, List, [], ◌∷◌, length, get_or, take, drop, Option, Some, None, Result, Ok, Err, refl, sym, ap, ◌∙◌, arith, length-drop}
+use Rattle.std.proofs.Common.{◌≡◌, ℕ, ◌+◌, ◌<◌, ◌≤◌, Bool, true, false, cond, not, ltb, List, [], ◌∷◌, length, get_or, take, drop, Option, Some, None, Result, Err, refl, sym, ap, ◌∙◌, arith, length-drop}
 use Rattle.std.specs.List.{slice_split, position, position_or_len}
 use Rattle.std.specs.Option.{option_map_or}
 use Rattle.std.proofs.lemmas.Bool.{false≢true}
@@ -8,7 +8,7 @@ use Rattle.std.proofs.lemmas.List.Elements.{All-from_get_or}
 use Rattle.std.proofs.lemmas.List.Splits.{slice_split_none, slice_split_first, length-slice_split}
 use Rattle.std.proofs.lemmas.List.Sums.{prefix_len_passes}
 use Rattle.ipe_script.specs.Script.{Script}
-use Rattle.ipe_script.specs.Grammar.{Progress, next, is_line_feed, is_ended, requests_from}
+use Rattle.ipe_script.specs.Grammar.{Progress, next, is_line_feed, requests_from}
 use Rattle.ipe_script.specs.Reader.{Takes}
 use Rattle.ipe_script.specs.Answers.{CutsLine}
 

@@ -3,7 +3,7 @@ ghost use Rattle.ipe_script.specs.Forms.{is_node, read_form, right_of, write_for
 
 use crate::form::{Form, Written};
 use crate::word::{copied, hex_bytes};
-use ipe_policy::DevName;
+use ipe_policy::{DevName, is_visible_word};
 use ipe_words::Bytes;
 use std::alloc::{AllocError, Global};
 
