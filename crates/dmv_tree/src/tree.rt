@@ -39,7 +39,7 @@ impl Tree {
 }
 
 /// The tree of an image of 1 to 4,096 whole blocks of 512, 1,024, 2,048 or 4,096 bytes, with at most 256 bytes of salt.
-/// While it is built, memory has it and one of its levels.
+/// While it is built, memory has it twice, as its levels and as it is stored.
 pub fn build(alloc: Global, image: &[u8], block_size: u32, salt: &[u8]) -> Result<Tree, AllocError>
     requires blocks { AreBlocks (length image.now) block_size }
     requires salt { length salt.now ≤ 256 }

@@ -17,8 +17,8 @@ pub struct Tree {
 }
 
 /// The tree over 1 to 16,777,216 bytes, cut into blocks, of which the last is filled with zeros. A block is full of
-/// digests, at least four of them, and has at most 4,096 bytes. While the tree is built, memory has it, one of its
-/// levels, and the last block where that is short.
+/// digests, at least four of them, and has at most 4,096 bytes. While the tree is built, memory has it twice, as its
+/// levels and as it is stored, and the last block where that is short.
 pub fn build(alloc: Global, bytes: &[u8], block_size: u32, salt: &[u8]) -> Result<Tree, AllocError>
     requires some { 1 ≤ length bytes.now }
     requires few { length bytes.now ≤ 16777216 }

@@ -45,6 +45,7 @@ purpose_of marked.Policy = purpose.Policy
 purpose_of marked.Root = purpose.Root
 purpose_of marked.File = purpose.File
 
+-- what a mark says of its digest
 abbrev pub says : MarkVerdict → Verdict
 says said.Trusted = verdict.Trusted
 says said.Unknown = verdict.Unknown
@@ -55,6 +56,7 @@ abbrev pub digest_of : Script → MarkDigest → List ℕ
 digest_of script (digest.Text place) = sha256 (bytes_of script place)
 digest_of script (digest.Hex bytes) = bytes
 
+-- the mark of a line, with the digest that it is about
 abbrev pub mark_of : Script → MarkLine → Mark
 mark_of script mark =
     record { purpose = purpose_of mark.purpose; verdict = says mark.verdict; digest = digest_of script mark.digest }
@@ -106,6 +108,7 @@ task_reply script machine (Hook request subject file) =
     ruled (ruling_for machine (evaluated_op request) (context_of file))
     (access_of machine request subject (object_of script file) (context_of file))
 
+-- what a line is replied
 abbrev pub line_reply : Script → Machine → PhaseLine → LineReply
 line_reply script machine line = task_reply script machine line.task
 
@@ -127,6 +130,7 @@ after_task script machine (Write may node content) =
 after_task script machine (Read node) = machine
 after_task script machine (Hook request subject file) = after_hook (verdicts_of script) machine (evaluated_op request)
 
+-- the machine behind a line
 abbrev pub after_line : Script → Machine → PhaseLine → Machine
 after_line script machine line = after_task script machine line.task
 
@@ -174,6 +178,7 @@ pub record Key : Type 0 where
   pub rank : ℕ
   pub within : ℕ
 
+-- a claim belongs behind the commands of its epoch, by its count; without a place it belongs nowhere
 abbrev pub claim_key : Option Place → Option Key
 claim_key None = None
 claim_key (Some place) = Some (record { epoch = place.epoch; rank = 2; within = place.count })
@@ -184,6 +189,7 @@ write_key line before epoch =
     if epoch == before then record { epoch = before; rank = 1; within = line }
     else record { epoch = epoch; rank = 0; within = 0 }
 
+-- where the entry of a line with this reply belongs, whose number is `line`; `before` is the epoch before it
 abbrev pub reply_key : ℕ → ℕ → LineReply → Option Key
 reply_key line before (wrote epoch answer records) = Some (write_key line before epoch)
 reply_key line before (told epoch answer) = Some (write_key line before epoch)
@@ -193,6 +199,7 @@ reply_key line before (ruled ruling access) = claim_key ruling.place
 abbrev pub key_of : Acted → Option Key
 key_of entry = reply_key entry.line.line entry.before entry.reply
 
+-- a key is before another: by epoch, then by rank, then within the rank
 abbrev pub IsBefore : Key → Key → Type 0
 IsBefore a b =
     (a.epoch < b.epoch) ⊎ ((a.epoch ≡ b.epoch) × ((a.rank < b.rank) ⊎ ((a.rank ≡ b.rank) × (a.within < b.within))))
@@ -233,10 +240,11 @@ NumbersRise [] = Unit {0}
 NumbersRise (line ∷ []) = Unit {0}
 NumbersRise (line ∷ next ∷ lines) = (line.line < next.line) × NumbersRise (next ∷ lines)
 
--- no command stands behind a hook
+-- each line is a hook
 abbrev pub AllHooks : List PhaseLine → Type 0
 AllHooks lines = AllByRecursion (λ line. actor_of line ≡ 1) lines
 
+-- no command stands behind a hook
 abbrev pub CommandsFirst : List PhaseLine → Type 0
 CommandsFirst [] = Unit {0}
 CommandsFirst (line ∷ lines) = ((actor_of line ≡ 1) → AllHooks lines) × CommandsFirst lines

@@ -21,6 +21,7 @@ pub record SpokenLine : Type 0 where
   pub number : ℕ
   pub tokens : List (List ℕ)
 
+-- a line with a token
 abbrev pub is_spoken : SpokenLine → Bool
 is_spoken line = nat_lt 0 (length line.tokens)
 

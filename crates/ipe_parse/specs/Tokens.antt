@@ -48,6 +48,7 @@ last_action tokens = option_and_then action_named (slice_get tokens (length toke
 abbrev pub hex_bytes : List ℕ → Option (List ℕ)
 hex_bytes text = if nat_le 2 (length text) && nat_le (length text) 128 then result_ok (decode_of text) else None
 
+-- the colon between an algorithm and its digits
 abbrev pub is_colon : ℕ → Bool
 is_colon byte = byte == 58
 

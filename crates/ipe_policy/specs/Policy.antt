@@ -7,6 +7,7 @@ use Rattle.ipe_policy.specs.declared.statement.Statement.{Statement}
 use Rattle.ipe_policy.specs.declared.version.Version.{Version}
 use Rattle.ipe_policy.specs.Statement.{op_default_of, global_default_of}
 
+-- what a policy is made of: its name, its version and its statements in text order
 pub record PolicyParts : Type 0 where
   pub name : List ℕ
   pub version : Version

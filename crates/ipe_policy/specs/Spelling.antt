@@ -26,13 +26,16 @@ op_word KexecInitramfs = codes "KEXEC_INITRAMFS"
 op_word Policy = codes "POLICY"
 op_word X509Cert = codes "X509_CERT"
 
+-- the token of an operation
 abbrev pub op_token : Op → List ℕ
 op_token op = codes "op=" ++ op_word op
 
+-- the token of an action
 abbrev pub action_token : Action → List ℕ
 action_token Allow = codes "action=ALLOW"
 action_token Deny = codes "action=DENY"
 
+-- the word of a truth value
 abbrev pub truth_word : Bool → List ℕ
 truth_word true = codes "TRUE"
 truth_word false = codes "FALSE"
@@ -46,6 +49,7 @@ bit_text false = codes "0"
 abbrev pub digest_word : Digest → List ℕ
 digest_word digest = digest.alg ++ codes ":" ++ encode_lower digest.bytes
 
+-- the token of a property
 abbrev pub property_token : Property → List ℕ
 property_token (BootVerified wanted) = codes "boot_verified=" ++ truth_word wanted
 property_token (DmverityRoothash digest) = codes "dmverity_roothash=" ++ digest_word digest

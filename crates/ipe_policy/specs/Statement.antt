@@ -17,6 +17,7 @@ op_number KexecInitramfs = 4
 op_number Policy = 5
 op_number X509Cert = 6
 
+-- two operations are the same
 abbrev pub same_op : Op → Op → Bool
 same_op a b = op_number a == op_number b
 

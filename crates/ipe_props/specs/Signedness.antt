@@ -6,6 +6,7 @@ use Rattle.ipe_signer.specs.declared.signer.Purpose.TheVariants as purpose
 use Rattle.ipe_signer.specs.declared.signer.Verdict.{Verdict}
 use Rattle.ipe_signer.specs.declared.signer.Verdict.TheVariants.{Trusted, Unknown, Revoked}
 
+-- the verdict is Trusted
 abbrev pub is_trusted : Verdict → Bool
 is_trusted Trusted = true
 is_trusted Unknown = false

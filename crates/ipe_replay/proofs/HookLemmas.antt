@@ -22,26 +22,6 @@ use Rattle.ipe_records.specs.Records.{access_by, access_for, access_of}
 use Rattle.ipe_replay.specs.Ruled.{IsRuledBy, parts_in}
 
 -- a pass that was free holds what it claims
-holds : (m : Machine) (entry : Loaded) → IsTrue (is_free (slice_get m.held 0))
-    → IsTrue (is_holding (slice_get (claimed m 0 (Some entry)).held 0))
-holds m entry free = go m.held free
-  where
-    go : (held : List (Option ℕ)) → IsTrue (is_free (slice_get held 0))
-        → IsTrue (is_holding (slice_get (claimed (record m { held = held }) 0 (Some entry)).held 0))
-    go [] free = free
-    go (h ∷ held) free = refl
-
-holds_at : (m : Machine) (op : Op) (context : Context) (entry : Option Loaded) → IsTrue (is_free (slice_get m.held 0))
-    → is_some (ruling_at m entry op context).serial ≡ true → IsTrue (is_holding (slice_get (claimed m 0 entry).held 0))
-holds_at m op context None free some = cc
-holds_at m op context (Some entry) free some = holds m entry free
-
--- the pass of a claim that has a serial is held
-pub is_held : (m : Machine) (op : Option Op) (context : Context) → IsTrue (is_free (slice_get m.held 0))
-    → is_some (ruling_for m op context).serial ≡ true → IsTrue (is_holding (slice_get (after_claim m 0 op).held 0))
-is_held m None context free some = cc
-is_held m (Some op) context free some = holds_at m op context (active_entry m.policies) free some
-
 -- the record of an access that a statement decided
 decided : (m : Machine) (request : Request) (subject : Subject) (object : Object) (op : Op)
     → (statement : Option Statement)

@@ -46,6 +46,7 @@ pub record Progress : Type 0 where
   pub work : ℕ
   pub reads : ℕ
 
+-- before the first line
 abbrev pub at_first : Progress
 at_first = record { stage = at_start; script = no_script; commands = 0; hooks = 0; work = 0; reads = 0 }
 
@@ -53,6 +54,7 @@ at_first = record { stage = at_start; script = no_script; commands = 0; hooks = 
 abbrev pub text_place : Script → List ℕ → Option ℕ
 text_place script id = position (is_text id) (ids_of script.texts)
 
+-- the place of a path among the declared files
 abbrev pub file_place : Script → List ℕ → Option ℕ
 file_place script path = position (is_text path) (paths_of script.files)
 
@@ -68,22 +70,25 @@ abbrev pub open_text : Progress → List ℕ → List ℕ → ℕ → Progress
 open_text progress id bytes zero = with_text progress id bytes
 open_text progress id bytes (suc left) = record progress { stage = in_text id bytes (suc left) }
 
--- the stages in which each section's lines may stand
+-- a text stands behind the workers and outside of a text, before the files
 abbrev pub may_declare_text : Stage → Bool
 may_declare_text in_texts = true
 may_declare_text other = false
 
+-- a file stands behind the texts, and before the marks
 abbrev pub may_declare_file : Stage → Bool
 may_declare_file in_texts = true
 may_declare_file in_files = true
 may_declare_file other = false
 
+-- a mark stands before the phases
 abbrev pub may_mark : Stage → Bool
 may_mark in_texts = true
 may_mark in_files = true
 may_mark in_marks = true
 may_mark other = false
 
+-- a phase, or the end, stands behind the workers and outside of a text
 abbrev pub may_begin_phase : Stage → Bool
 may_begin_phase in_texts = true
 may_begin_phase in_files = true
@@ -96,6 +101,7 @@ abbrev pub may_command : Stage → Bool
 may_command (in_phase hooked) = not hooked
 may_command other = false
 
+-- a hook line stands within a phase
 abbrev pub may_hook : Stage → Bool
 may_hook (in_phase hooked) = true
 may_hook other = false
@@ -106,31 +112,38 @@ onto_last [] line = []
 onto_last (lines ∷ []) line = (lines ++ line ∷ []) ∷ []
 onto_last (lines ∷ next ∷ phases) line = lines ∷ onto_last (next ∷ phases) line
 
+-- one more line in the last phase
 abbrev pub with_line : Progress → Bool → ℕ → Task → Progress
 with_line progress hooked number task = record progress {
   stage = in_phase hooked;
   script = record progress.script { phases = onto_last progress.script.phases (record { line = number; task = task }) };
 }
 
--- the limits of a request file
+-- the most texts
 abbrev pub most_texts : ℕ
 most_texts = 256
 
+-- the most files
 abbrev pub most_files : ℕ
 most_files = 1024
 
+-- the most marks
 abbrev pub most_marks : ℕ
 most_marks = 4096
 
+-- the most phases
 abbrev pub most_phases : ℕ
 most_phases = 1000
 
+-- the most command lines
 abbrev pub most_commands : ℕ
 most_commands = 100000
 
+-- the most hook lines
 abbrev pub most_hooks : ℕ
 most_hooks = 200000
 
+-- the most bytes of texts and files that lines name, each as often as a line names it
 abbrev pub most_work : ℕ
 most_work = 1073741824
 
@@ -304,6 +317,7 @@ at_stage in_marks progress number line = with_formed progress number line
 at_stage (in_phase hooked) progress number line = with_formed progress number line
 at_stage at_end progress number line = None
 
+-- what the lines so far come to with one more line, which has this number; nothing where it may not stand there
 unfoldable pub next : Progress → ℕ → List ℕ → Option Progress
 next progress number line = at_stage progress.stage progress number line
 
@@ -312,6 +326,7 @@ abbrev pub is_ended : Stage → Bool
 is_ended at_end = true
 is_ended other = false
 
+-- the line feed
 abbrev pub is_line_feed : ℕ → Bool
 is_line_feed byte = byte == 10
 

@@ -15,6 +15,7 @@ use Rattle.ipe_script.specs.Grammar.{Progress, most_work, most_reads, may_hook}
 abbrev pub phases_at : grammar.Stage → List (List PhaseLine) → List PhaseLine → List (List PhaseLine)
 phases_at stage phases lines = if may_hook stage then phases ++ lines ∷ [] else phases
 
+-- how far a reader has come
 abbrev pub progress_of : Inside → Progress
 progress_of reader = record {
   stage = stage_of reader.stage;

@@ -25,6 +25,7 @@ no_script = record { texts = []; files = []; marks = []; phases = [] }
 abbrev pub ids_of : List TextLine → List (List ℕ)
 ids_of texts = map (λ (text : TextLine). text.id) texts
 
+-- the paths of files
 abbrev pub paths_of : List FileLine → List (List ℕ)
 paths_of files = map (λ (file : FileLine). file.path) files
 
@@ -53,5 +54,6 @@ actor_of_task (Write may node content) = 0
 actor_of_task (Read node) = 0
 actor_of_task (Hook request subject file) = 1
 
+-- who acts in a line: 0 is the administrator, 1 the worker
 abbrev pub actor_of : PhaseLine → ℕ
 actor_of line = actor_of_task line.task

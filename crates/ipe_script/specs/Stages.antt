@@ -3,6 +3,7 @@ use Rattle.ipe_script.specs.declared.stage.Stage.{Stage}
 use Rattle.ipe_script.specs.declared.stage.Stage.TheVariants as at
 use Rattle.ipe_script.specs.Grammar as grammar
 
+-- the stage that the program's type stands for
 abbrev pub stage_of : Stage → grammar.Stage
 stage_of at.Start = grammar.at_start
 stage_of at.Workers = grammar.at_workers
