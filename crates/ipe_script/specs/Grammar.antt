@@ -50,7 +50,7 @@ pub record Progress : Type 0 where
 abbrev pub at_first : Progress
 at_first = record { stage = at_start; script = no_script; commands = 0; hooks = 0; work = 0; reads = 0 }
 
--- the place of the text of an id, and of the file of a path
+-- the place of an id among the declared texts
 abbrev pub text_place : Script → List ℕ → Option ℕ
 text_place script id = position (is_text id) (ids_of script.texts)
 
