@@ -9,6 +9,7 @@ mod SpelledProperties
 mod SpelledStatements
 mod Defaults
 pub mod Readings
+mod Printable
 mod Bytes
 mod Values
 mod Printings
