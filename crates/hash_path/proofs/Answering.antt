@@ -1,7 +1,7 @@
 -- What a checked read answers.
 use Rattle.std.proofs.Common.{◌≡◌, ℕ, zero, suc, ◌+◌, ◌-◌, ◌<◌, ◌≤◌, List, [], ◌∷◌, ◌++◌, length, take, drop, get_or, Option, None, Some, Result, Ok, Err, ap, refl, sym, ◌∙◌, subst, arith, inl, inr}
 use Rattle.std.specs.Prelude.{IfSome, IsErrOf, OnOk}
-use Rattle.std.proofs.lemmas.List.{length-append, length-drop, length-take, take-append-drop, take-append-le, take_all}
+use Rattle.std.proofs.lemmas.List.{length-append, length-drop, take-append-drop, take_all}
 use Rattle.std.proofs.lemmas.Option.{none-some}
 use Rattle.blk_device.specs.Contents.{Contents, HasNone, content}
 use Rattle.blk_device.specs.declared.devices.VerityError.{VerityError}
@@ -110,17 +110,6 @@ length-held tree bytes i block =
       length-append (held_blocks tree bytes i) (block ∷ []),
       length-held_from tree bytes i 0 tree.levels,
     )
-
--- the front of the hash blocks is the front of the path
-pub front_short : (held path rest : List (List ℕ)) → path ≡ take (length path) held →
-    path ≡ take (length path) (held ++ rest)
-front_short held path rest is =
-    is
-    ∙ sym (take-append-le (length path) held rest (omega (
-      arith,
-      length-take (length path) held,
-      ap (λ (xs : List (List ℕ)). length xs) is,
-    )))
 
 -- all of them and the block below them are the path
 pub front_whole : (tree : Stored) (bytes : List ℕ) (i : ℕ) (path : List (List ℕ)) (block : List ℕ) →

@@ -67,17 +67,6 @@ pub record AtStep (tree : Stored) (told : Option Contents) (i : ℕ) (path : Lis
   pub place : first + blocks_above (fan_out tree.block_size) tree.blocks level
       ≡ blocks_above (fan_out tree.block_size) tree.blocks tree.levels
 
-found_all : (found : Option (List ℕ)) (P : List ℕ → Type 0) → ((bytes : List ℕ) → P bytes) →
-    IfSome found (λ bytes. P bytes)
-found_all None P each = tt
-found_all (Some bytes) P each = each bytes
-
--- what is true of all bytes is true of a device's
-of_all : (told : Option Contents) (name : List ℕ) (P : List ℕ → Type 0) → ((bytes : List ℕ) → P bytes) →
-    OfBytes told name P
-of_all None name P each = tt
-of_all (Some items) name P each = found_all (content name items) P each
-
 found_both : (found : Option (List ℕ)) (P Q R : List ℕ → Type 0) → ((bytes : List ℕ) → P bytes → Q bytes → R bytes) →
     IfSome found (λ bytes. P bytes) → IfSome found (λ bytes. Q bytes) → IfSome found (λ bytes. R bytes)
 found_both None P Q R each p q = tt

@@ -2,9 +2,8 @@ ghost use Rattle.blk_device.specs.Contents.{HasAtLeast, HasNone};
 ghost use Rattle.hash_path.specs.Checked.{FailsAt, IsChecked, LeadsTo};
 ghost use Rattle.hash_path.specs.Stored.{HasTree, IsStored, OfBytes, held_block, held_blocks};
 ghost use Rattle.hash_tree.specs.Path.{digest_in};
-ghost use Rattle.hash_tree.specs.Tree.{salted};
 ghost use Rattle.ipe_words.specs.Count.{Rose};
-ghost use Rattle.std.specs.Prelude.{◌≡◌, ◌+◌, ◌*◌, ◌/◌, ◌^◌, ◌<◌, ◌≤◌, ◌++◌, ◌∷◌, ℕ, [], bytes_eq, length, take, IfOk, IsErrOf, OnOk};
+ghost use Rattle.std.specs.Prelude.{◌≡◌, ◌+◌, ◌*◌, ◌/◌, ◌^◌, ◌<◌, ◌≤◌, ◌++◌, ◌∷◌, ℕ, [], length, take, IfOk, IsErrOf, OnOk};
 
 use crate::{BlockPath, StoredTree};
 use blk_device::{Devices, VerityError, read_exact_at};
