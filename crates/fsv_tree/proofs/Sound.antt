@@ -97,10 +97,6 @@ first_or : (a b : Bool) → a ≡ false → b ≡ false → (a || b) ≡ false
 first_or false b first second = second
 first_or true b first second = absurd cc
 
-second_and : (a b : Bool) → b ≡ false → (a && b) ≡ false
-second_and false b second = refl
-second_and true b second = second
-
 either_and : (a b : Bool) → (a ≡ true → b ≡ false) → (a && b) ≡ false
 either_and false b second = refl
 either_and true b second = second refl
