@@ -13,7 +13,7 @@ use Rattle.hash_tree.specs.Shape.{IsHeight, blocks_above}
 use Rattle.hash_tree.specs.Tree.{fan_out}
 use Rattle.hash_path.specs.Checked.{LeadsTo, answer_of, failing}
 use Rattle.hash_path.specs.Stored.{HasTree, HoldsTreeOf, IsStored, OfBytes, Stored, held_blocks}
-use Rattle.hash_path.proofs.Answering.{Answers, by_held, front_short, front_whole, length-held}
+use Rattle.hash_path.proofs.Answering.{Answers, by_held, front_whole, length-held}
 use Rattle.hash_path.proofs.HeldTrees.{held_right}
 use Rattle.hash_path.proofs.Heights.{three_levels}
 use Rattle.dmv_volume.specs.Reading.{OfBoth, held_path, tree_of}
@@ -41,24 +41,6 @@ pub has_tree : (told : Option Contents) (table : TableParts) (levels : ℕ) →
 has_tree told table levels has =
     let many = blocks_above (fan_out table.block_size) table.blocks levels in
     subst (λ (n : ℕ). HasAtLeast told table.hash_device n) (add-mul table.hash_start many table.block_size) has
-
-short_of : (first second : Option (List ℕ)) (table : TableParts) (levels i : ℕ) (taken : List (List ℕ)) →
-    IfSome second (λ hashes. taken ≡ take (length taken) (held_blocks (tree_of table levels) hashes i)) →
-    IfSome first (λ bytes. IfSome second (λ hashes.
-    taken ≡ take (length taken) (held_path table levels bytes hashes i)))
-short_of None second table levels i taken held = tt
-short_of (Some bytes) None table levels i taken held = tt
-short_of (Some bytes) (Some hashes) table levels i taken held =
-    front_short (held_blocks (tree_of table levels) hashes i) taken (slice_chunk bytes table.block_size i ∷ []) held
-
--- the front of the hash blocks is the front of the path
-pub short_path : (told : Option Contents) (table : TableParts) (levels i : ℕ) (taken : List (List ℕ)) →
-    OfBytes told table.hash_device (λ hashes.
-    taken ≡ take (length taken) (held_blocks (tree_of table levels) hashes i)) →
-    OfBoth told table (λ bytes hashes. taken ≡ take (length taken) (held_path table levels bytes hashes i))
-short_path None table levels i taken held = tt
-short_path (Some items) table levels i taken held =
-    short_of (content table.device items) (content table.hash_device items) table levels i taken held
 
 whole_of : (first second : Option (List ℕ)) (table : TableParts) (levels i : ℕ) (taken : List (List ℕ))
     (block : List ℕ) → length taken ≡ levels → length block ≡ table.block_size →

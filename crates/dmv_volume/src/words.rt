@@ -4,7 +4,7 @@ ghost use Rattle.dmv_volume.specs.Words.Rule.{BlockSize, Number, Salt};
 ghost use Rattle.hex.specs.Hex.{decode_of};
 ghost use Rattle.std.specs.Fmt.{decimal as decimal_text};
 ghost use Rattle.std.specs.List.{list_all};
-ghost use Rattle.std.specs.Prelude.{◌≡◌, ◌-◌, ◌≤◌, ◌&&◌, ℕ, IsTrue, Ok, nat_le, length, IfNone, IfOk, IfSome, []};
+ghost use Rattle.std.specs.Prelude.{◌≡◌, ◌-◌, ◌≤◌, ◌&&◌, IsTrue, Ok, length, IfNone, IfOk, IfSome, []};
 
 use dmv_tree::is_block_size;
 use hex::FromHexError;
