@@ -144,6 +144,13 @@ impl FsvFile {
         };
         take_path(&tree, &mut self.path, dev, i, &mut self.buffer, block)
     }
+
+    /// The path of the last call, as far as it was read.
+    pub fn path(&self) -> &BlockPath
+        ensures { result.now.items ≡ self.now.path }
+    {
+        &self.path
+    }
 }
 
 // How many levels stand above a file's blocks: above one block, or none, there are none.
