@@ -19,7 +19,7 @@ fn stored_tree<'a>(table: &'a Table, levels: u8) -> StoredTree<'a>
         block_size: table.block_size(),
         blocks: table.blocks(),
         levels,
-        root: table.root_digest(),
+        root: table.root(),
         salt: table.salt(),
     }
 }

@@ -153,14 +153,8 @@ impl Table {
         self.hash_start
     }
 
-    /// The root that is declared, 32 bytes.
-    pub fn root(&self) -> &[u8]
-        ensures { result.now ≡ self.now.root }
-    {
-        &self.root
-    }
-
-    pub(crate) fn root_digest(&self) -> [u8; 32]
+    /// The root that is declared.
+    pub fn root(&self) -> [u8; 32]
         ensures { result ≡ self.now.root }
     {
         self.root
