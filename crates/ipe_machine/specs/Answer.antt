@@ -22,30 +22,35 @@ use Rattle.ipe_machine.specs.declared.answer.Done.TheVariants.{Loaded, Updated, 
 use Rattle.ipe_machine.specs.declared.answer.Refusal.{Refusal}
 use Rattle.ipe_machine.specs.declared.answer.Refusal.TheVariants.{NotPermitted, TooBig, Rejected, NoKey, BadPolicy, TooWide, Exists, NoSpace, NoEntry, OtherName, Stale, EpochFull, BadValue, IsActive}
 use Rattle.ipe_machine.specs.Policies as state
-use Rattle.ipe_machine.specs.Policies.{Policies, place_of, entry_named, is_active, active_entry, policy_in, entry_of, added, replaced, without}
+use Rattle.ipe_machine.specs.Policies.{Policies, place_of, entry_named, is_active, active_entry, entry_of, added, replaced, without}
 
 -- one verdict for each purpose and digest
 abbrev pub Verdicts : Type 0
 Verdicts = Purpose → List ℕ → Verdict
 
--- the greatest size of a policy text, the most words of an image, the most loaded policies, and the last epoch
+-- the greatest size of a policy text, in bytes
 abbrev pub most_text : ℕ
 most_text = 1048576
 
+-- the most words of a loaded policy's image
 abbrev pub most_words : ℕ
 most_words = 4096
 
+-- the most policies that are loaded at once
 abbrev pub most_loaded : ℕ
 most_loaded = 32
 
+-- the last epoch, which has no next
 abbrev pub last_epoch : ℕ
 last_epoch = 65535
 
+-- what was vouched for no longer is
 abbrev pub is_revoked : Verdict → Bool
 is_revoked Trusted = false
 is_revoked Unknown = false
 is_revoked Revoked = true
 
+-- nobody has vouched
 abbrev pub is_unknown : Verdict → Bool
 is_unknown Trusted = false
 is_unknown Unknown = true
@@ -70,6 +75,7 @@ when_it_is_taken verdicts text go_on =
     else if is_unknown (verdict_on verdicts text) then Err NoKey
     else when_it_reads (reading text) go_on
 
+-- the answer to a load: its name may not be loaded yet, and there is room for it
 abbrev pub load_answer : Verdicts → Policies → List ℕ → Result Done Refusal
 load_answer verdicts policies text = when_it_is_taken verdicts text λ policy.
     if is_some (place_of policy.name policies.loaded) then Err Exists
@@ -85,9 +91,11 @@ update_of verdicts policies name text (Some entry) = when_it_is_taken verdicts t
     else if is_active name policies && (policies.epoch == last_epoch) then Err EpochFull
     else Ok Updated
 
+-- the answer to an update of a name
 abbrev pub update_answer : Verdicts → Policies → List ℕ → List ℕ → Result Done Refusal
 update_answer verdicts policies name text = update_of verdicts policies name text (entry_named name policies.loaded)
 
+-- what was written says true
 abbrev pub is_true : Value → Bool
 is_true value.True = true
 is_true value.False = false
@@ -107,11 +115,13 @@ activation_of policies name (Some entry) =
     else unless_stale (active_entry policies) entry.version
     (if policies.epoch == last_epoch then Err EpochFull else Ok Activated)
 
+-- the answer to an activation of a name: only true may be written
 abbrev pub activate_answer : Policies → List ℕ → Value → Result Done Refusal
 activate_answer policies name wanted =
     if not (is_true wanted) then Err BadValue
     else activation_of policies name (entry_named name policies.loaded)
 
+-- the answer to a deletion of a name: only true may be written, and the active policy stays
 abbrev pub delete_answer : Policies → List ℕ → Value → Result Done Refusal
 delete_answer policies name wanted =
     if not (is_true wanted) then Err BadValue

@@ -17,6 +17,7 @@ use Rattle.ipe_machine.specs.declared.event.Reply.TheVariants as reply
 use Rattle.ipe_machine.specs.Policies.{Policies, Loaded, first_policies, active_entry, policy_in}
 use Rattle.ipe_machine.specs.Answer.{Verdicts, answer, after}
 
+-- a machine: the policies, how many claims were counted in the present epoch, and what serial each pass holds
 pub record Machine : Type 0 where
   pub policies : Policies
   pub count : ℕ
@@ -78,6 +79,7 @@ claimed machine pass None = record machine { count = machine.count + 1 }
 claimed machine pass (Some entry) =
     record machine { count = machine.count + 1; held = slice_set machine.held pass (Some entry.serial) }
 
+-- the machine after a claim: a request that isn't evaluated changes nothing
 abbrev pub after_claim : Machine → ℕ → Option Op → Machine
 after_claim machine pass None = machine
 after_claim machine pass (Some op) = claimed machine pass (active_entry machine.policies)

@@ -15,6 +15,8 @@ pub record Loaded : Type 0 where
   pub text : List ℕ
   pub serial : ℕ
 
+-- the loaded policies in the order of their loads, the name of the active one, the switches enforce and success_audit,
+-- the epoch, and the serial that the next load or update takes
 pub record Policies : Type 0 where
   pub loaded : List Loaded
   pub active : Option (List ℕ)

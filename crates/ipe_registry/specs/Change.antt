@@ -26,6 +26,7 @@ step_applied policies (SuccessAudit on) = later (record policies { success = on 
 abbrev pub applied : Policies → Change → Policies
 applied policies change = step_applied policies change.step
 
+-- the answer of a step
 abbrev pub step_done : Step → done.Done
 step_done (Add entry) = done.TheVariants.Loaded
 step_done (Replace place entry raises) = done.TheVariants.Updated
@@ -38,6 +39,7 @@ step_done (SuccessAudit on) = done.TheVariants.Changed
 abbrev pub change_done : Change → done.Done
 change_done change = step_done change.step
 
+-- the entry that a step brings
 abbrev pub step_entry : Step → Option Loaded
 step_entry (Add entry) = Some entry
 step_entry (Replace place entry raises) = Some entry
@@ -50,6 +52,7 @@ step_entry (SuccessAudit on) = None
 abbrev pub change_entry : Change → Option Loaded
 change_entry change = step_entry change.step
 
+-- whether a step raises the epoch
 abbrev pub step_raises : Step → Bool
 step_raises (Add entry) = false
 step_raises (Replace place entry raises) = raises

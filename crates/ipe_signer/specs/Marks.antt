@@ -15,6 +15,7 @@ purpose_number Policy = 0
 purpose_number Root = 1
 purpose_number File = 2
 
+-- two purposes are the same
 abbrev pub same_purpose : Purpose → Purpose → Bool
 same_purpose a b = purpose_number a == purpose_number b
 
