@@ -9,6 +9,7 @@ pub use ipe_machine::{
     Act, Command, CoreOutcome, CoreRuling, Done, Event, Events, Place, Refusal, Replies, Reply,
     Text, Value, active_version_never_falls,
 };
+pub use ipe_parse::{BadKind, BadText};
 pub use ipe_registry::{Entry, Registry};
 pub use ipe_signer::{Mark, Marks, Purpose, Signer, TrustList, Verdict};
 pub use run::run_events;

@@ -1,4 +1,4 @@
-ghost use Rattle.std.specs.Prelude.{◌≡◌, Ok, IfOk, List, ℕ, slice_get};
+ghost use Rattle.std.specs.Prelude.{◌≡◌, Ok, IfOk};
 
 use ipe_machine::Text;
 use ipe_policy::{Name, Policy, Version};

@@ -13,4 +13,5 @@ mod registry;
 pub use change::{Change, Plan};
 pub use entry::Entry;
 pub use ipe_machine::{Act, Command, Done, Refusal, Text, Value};
+pub use ipe_parse::{BadKind, BadText};
 pub use registry::Registry;
