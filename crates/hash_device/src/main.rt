@@ -4,47 +4,60 @@
 #![tactic(auto)]
 
 ghost use Rattle.dmv_tree.specs.Blocks.{is_block_size};
-ghost use Rattle.std.specs.Prelude.{◌≤◌, length, IfSome, IsTrue};
+ghost use Rattle.std.specs.IoError.{error_kind};
+ghost use Rattle.std.specs.Prelude.{◌≡◌, ◌≢◌, ◌≤◌, ◌↔◌, ◌⊎◌, length, IfErr, IfOk, IsTrue};
 
+mod words;
 mod writing;
 
-use dmv_tree::is_block_size;
-use ipe_words::{Status, StdSink, StdSource, decimal};
-use std::env;
+use ipe_words::{Status, StdSink, StdSource};
+use std::io::ErrorKind;
 use std::process::ExitCode;
+use std::{env, io};
+use words::asked_by;
 pub use writing::write_hash_blocks;
 
 fn main(rt: HostRuntime) -> ExitCode {
-    let status = match words_of(&rt) {
-        Some((block_size, salt)) => {
+    let status = match asked(&rt) {
+        Ok((block_size, salt)) => {
             let mut source = StdSource::new(rt.reader());
             let mut sink = StdSink::new(std::io::writer(&rt));
             write_hash_blocks(rt.alloc(), block_size, &salt, &mut source, &mut sink)
         }
-        None => Status::Usage,
+        Err(status) => status,
     };
     ExitCode::from(status.number())
 }
 
-// The two words behind the program's own name: the size of a block, and the salt in hexadecimal digits, or a dash for
-// none.
-fn words_of(rt: &HostRuntime) -> Option<(u32, Vec<u8>)>
-    ensures { IfSome result (λ words. IsTrue (is_block_size words.0) × (length words.1.items ≤ 256)) }
+// What the two words behind the program's own name ask for, or the status that it ends with.
+fn asked(rt: &HostRuntime) -> Result<(u32, Vec<u8>), Status>
+    ensures rule { IfOk result (λ asked. IsTrue (is_block_size asked.0) × (length asked.1.items ≤ 256)) }
+    ensures status { IfErr result (λ status. (status ≡ Status.Usage) ⊎ (status ≡ Status.NoMemory)) }
 {
-    let mut words = env::args(rt).ok()?.skip(1);
+    let mut words = match env::args(rt) {
+        Ok(words) => words.skip(1),
+        Err(error) => return Err(status_of(&error)),
+    };
     let (Some(size), Some(salt), None) = (words.next(), words.next(), words.next()) else {
-        return None;
+        return Err(Status::Usage);
     };
-    let size = decimal(size.as_bytes(), 4096)?;
-    let salt = match salt.as_str() {
-        "-" => Vec::new(rt.alloc()),
-        "" => return None,
-        digits => hex::decode(rt.alloc(), digits).ok()?,
-    };
-    if is_block_size(size) && salt.len() <= 256 {
-        Some((size as u32, salt))
+    match asked_by(rt.alloc(), size.as_bytes(), salt.as_bytes()) {
+        Ok(Some(asked)) => Ok(asked),
+        Ok(None) => Err(Status::Usage),
+        Err(_) => Err(Status::NoMemory),
+    }
+}
+
+// Words can't be read for want of memory, or because one is no text.
+fn status_of(error: &io::Error) -> Status
+    ensures memory { (result ≡ Status.NoMemory) ↔ (error_kind error.now ≡ ErrorKind.OutOfMemory) }
+    ensures usage { (result ≡ Status.Usage) ↔ (error_kind error.now ≢ ErrorKind.OutOfMemory) }
+    ensures either { (result ≡ Status.Usage) ⊎ (result ≡ Status.NoMemory) }
+{
+    if error.kind() == ErrorKind::OutOfMemory {
+        Status::NoMemory
     } else {
-        None
+        Status::Usage
     }
 }
 
