@@ -1,5 +1,5 @@
 -- Which records a command and an access make.
-use Rattle.std.specs.Prelude.{ℕ, Bool, true, false, if◌then◌else◌, List, [], ◌∷◌, Option, Some, None, Result, Ok, Err}
+use Rattle.std.specs.Prelude.{ℕ, if◌then◌else◌, List, [], ◌∷◌, Option, Some, None, Result, Ok, Err}
 use Rattle.std.specs.Option.{option_map, option_map_or, option_and_then}
 use Rattle.sha2.specs.Sha256.{sha256}
 use Rattle.ipe_policy.specs.declared.op.Op.{Op}
