@@ -1,6 +1,7 @@
 -- What the program does with an input.
-use Rattle.std.specs.Prelude.{◌≡◌, ℕ, ◌<◌, ◌≤◌, codes, List, ◌++◌, length, take, Option, Some, IfSome, Ok, Err, ◌⊎◌}
+use Rattle.std.specs.Prelude.{◌≡◌, ℕ, ◌<◌, ◌≤◌, codes, List, ◌++◌, length, Option, Ok, Err, ◌⊎◌}
 use Rattle.std.specs.Fmt.{decimal}
+use Rattle.ipe_words.specs.Sink.{Appends, AppendsPrefix}
 use Rattle.ipe_words.specs.declared.status.Status.{Status}
 use Rattle.ipe_words.specs.declared.status.Status.TheVariants as status
 use Rattle.ipe_script.specs.declared.script.PhaseLine.{PhaseLine}
@@ -62,11 +63,10 @@ IsAnswer input status.WriteFault text = ⊥
 IsAnswer input status.DeviceFault text = ⊥
 IsAnswer input status.NoMemory text = ⊥
 
--- where the sink tells what is written, a text of this kind was added to it
+-- a text of this kind is the answer, and where the sink tells what is written, it was added
 abbrev pub Writes : (List ℕ → Type 0) → Option (List ℕ) → Option (List ℕ) → Type 0
-Writes IsText before after = IfSome before (λ written. (text : List ℕ) × IsText text × (after ≡ Some (written ++ text)))
+Writes IsText before after = (text : List ℕ) × IsText text × Appends before after text
 
--- where the sink tells what is written, some first bytes of a text of this kind were added to it
+-- a text of this kind is the answer, and where the sink tells what is written, some first bytes of it were added
 abbrev pub WritesPrefix : (List ℕ → Type 0) → Option (List ℕ) → Option (List ℕ) → Type 0
-WritesPrefix IsText before after = IfSome before (λ written.
-    (text : List ℕ) × IsText text × (k : ℕ) × (k ≤ length text) × (after ≡ Some (written ++ take k text)))
+WritesPrefix IsText before after = (text : List ℕ) × IsText text × AppendsPrefix before after text
