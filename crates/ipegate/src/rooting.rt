@@ -6,6 +6,7 @@ ghost use Rattle.dmv_tree.specs.Blocks.{AreBlocks, is_block_size};
 ghost use Rattle.ipegate.specs.Program.{Writes, WritesPrefix};
 ghost use Rattle.ipegate.specs.Root.{AreNoBlocks, IsRefusedFor, IsRooted, IsRootRefusal, IsRootAnswer};
 ghost use Rattle.ipegate.specs.Root.{device_text, refusal_words, root_line, root_text, shape_text};
+ghost use Rattle.ipegate.specs.Words.{is_device};
 
 use blk_device::{DevError, Devices, ReadDeviceError, read_device};
 use dmv_tree::{Shape, build, layout};
@@ -45,8 +46,8 @@ enum Unanswered {
 }
 
 /// Writes one line, which tells the root hash of a device's image for dm-verity, and how many levels and hash blocks
-/// its tree has, or why the device is refused. A block has 512, 1,024, 2,048 or 4,096 bytes, and the salt at most 256.
-/// With the files of a system the device is a path, seen from the present folder.
+/// its tree has, or why the device is refused. A block has 512, 1,024, 2,048 or 4,096 bytes, the salt at most 256, and
+/// the device's name 1 to 255 visible ones. With the files of a system the device is a path, seen from the present folder.
 pub fn root<K: Sink, D: Devices>(
     alloc: Global,
     block_size: u32,
@@ -57,6 +58,7 @@ pub fn root<K: Sink, D: Devices>(
 ) -> Status
     requires size { IsTrue (is_block_size block_size) }
     requires salt { length salt.now ≤ 256 }
+    requires device { IsTrue (is_device device.now) }
 
     // Done: what was written tells the root of the device's bytes.
     ensures done { result ≡ Status.Done → IfSome (D.contents devices.old) (λ items.
