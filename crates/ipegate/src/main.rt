@@ -18,28 +18,26 @@ pub use measuring::measure;
 pub use rooting::{Refusal, root};
 pub use run::run;
 use std::env;
+use std::io::{self, ErrorKind};
 use std::process::ExitCode;
 
 fn main(rt: HostRuntime) -> ExitCode {
     let status = match words_of(&rt) {
-        Some(words) => {
+        Ok(words) => {
             let mut source = StdSource::new(rt.reader());
-            let mut sink = StdSink::new(std::io::writer(&rt));
+            let mut sink = StdSink::new(io::writer(&rt));
             let mut devices = FileDevices::new(&rt);
             run(rt.alloc(), &words, &mut source, &mut sink, &mut devices)
         }
-        None => Status::NoMemory,
+        Err(error) if error.kind() == ErrorKind::OutOfMemory => Status::NoMemory,
+        Err(_) => Status::Usage,
     };
     ExitCode::from(status.number())
 }
 
-// The words behind the program's own name.
-fn words_of(rt: &HostRuntime) -> Option<Vec<String>> {
-    let mut words = Vec::new(rt.alloc());
-    for word in env::args(rt).ok()?.skip(1) {
-        words.push(word).ok()?;
-    }
-    Some(words)
+// The words behind the program's own name. One that isn't UTF-8 is an error.
+fn words_of(rt: &HostRuntime) -> io::Result<Vec<String>> {
+    Ok(env::args(rt)?.skip(1).collect(rt.alloc())?)
 }
 
 #[cfg(test)]
