@@ -1,10 +1,22 @@
 use super::tests::answered;
+use ipe_parse::parse;
+use ipe_policy::print;
 use std::test::Fail;
 
 /// examples/sealed_appliance.policy
 const SEALED_APPLIANCE: &str =
     "# A sealed appliance: nothing runs but what was in the boot image or is on the signed volume.
 policy_name=sealed-appliance policy_version=1.4.0
+DEFAULT action=DENY
+op=EXECUTE boot_verified=TRUE action=ALLOW
+op=EXECUTE dmverity_signature=TRUE action=ALLOW
+op=FIRMWARE boot_verified=TRUE action=ALLOW
+op=KMODULE boot_verified=TRUE action=ALLOW
+op=POLICY boot_verified=TRUE action=ALLOW
+";
+
+/// [`SEALED_APPLIANCE`] as it is printed, without the comment.
+const SEALED_APPLIANCE_PRINTED: &str = "policy_name=sealed-appliance policy_version=1.4.0
 DEFAULT action=DENY
 op=EXECUTE boot_verified=TRUE action=ALLOW
 op=EXECUTE dmverity_signature=TRUE action=ALLOW
@@ -55,6 +67,18 @@ DEFAULT op=KEXEC_INITRAMFS action=DENY
 DEFAULT op=POLICY action=DENY
 DEFAULT op=X509_CERT action=DENY
 DEFAULT op=POLICY action=ALLOW
+";
+
+const AN_OPERATION_AND_AN_ACTION: &str = "policy_name=a policy_version=1.0.0
+DEFAULT action=DENY
+op=execute action=ALLOW
+op=EXECUTE action=allow
+";
+
+const AN_ACTION_AND_AN_OPERATION: &str = "policy_name=a policy_version=1.0.0
+DEFAULT action=DENY
+op=EXECUTE action=allow
+op=execute action=ALLOW
 ";
 
 const ONE_RULE: &str = "policy_name=a policy_version=1.0.0
@@ -200,6 +224,31 @@ fn each_fault_of_a_statement_is_named(rt: HostRuntime) -> Result<(), Fail> {
         assert_eq!(rt; status, 3, "{line}");
         assert_eq!(rt; written.as_slice(), answer.as_bytes(), "{line}");
     }
+    Ok(())
+}
+
+#[test]
+fn the_first_of_two_faulty_lines_is_named(rt: HostRuntime) -> Result<(), Fail> {
+    for (text, answer) in [
+        (AN_OPERATION_AND_AN_ACTION, "refused line 3: BadOp\n"),
+        (AN_ACTION_AND_AN_OPERATION, "refused line 3: BadAction\n"),
+    ] {
+        let (status, written) = answered(rt.alloc(), &["lint"], text.as_bytes())?;
+        assert_eq!(rt; status, 3, "{text}");
+        assert_eq!(rt; written.as_slice(), answer.as_bytes(), "{text}");
+    }
+    Ok(())
+}
+
+#[test]
+fn a_printed_policy_reads_as_itself(rt: HostRuntime) -> Result<(), Fail> {
+    let policy = parse(rt.alloc(), SEALED_APPLIANCE.as_bytes()).expect(&rt, "a policy");
+    let printed = print(rt.alloc(), &policy)?;
+    assert_eq!(rt; printed.as_slice(), SEALED_APPLIANCE_PRINTED.as_bytes());
+    let again = parse(rt.alloc(), SEALED_APPLIANCE_PRINTED.as_bytes()).expect(&rt, "a policy");
+    assert_eq!(rt; again.name, policy.name);
+    assert_eq!(rt; again.version, policy.version);
+    assert_eq!(rt; print(rt.alloc(), &again)?.as_slice(), printed.as_slice());
     Ok(())
 }
 

@@ -23,6 +23,28 @@ line=12 admin code=-126 epoch=0
 end
 ";
 
+/// The one mark revokes.
+const REVOKED: &str = "ipe-requests 1
+workers 1
+text a 3
+policy_name=a policy_version=1.0.0
+DEFAULT action=DENY
+op=EXECUTE boot_verified=TRUE action=ALLOW
+text init 1
+hello
+file /init boot rootfs 2 init
+mark policy revoked text a
+phase
+admin write new_policy text a
+end
+";
+
+const REVOKED_ANSWER: &str = "ipe-transcript 1
+phase 1
+line=12 admin code=-129 epoch=0
+end
+";
+
 /// The last mark revokes.
 const MARKED_AS_REVOKED: &str = "ipe-requests 1
 workers 1
@@ -98,6 +120,7 @@ end
 fn a_load_needs_a_policy_that_the_last_mark_trusts(rt: HostRuntime) -> Result<(), Fail> {
     for (input, answer) in [
         (MARKED_AS_A_ROOT, MARKED_AS_A_ROOT_ANSWER),
+        (REVOKED, REVOKED_ANSWER),
         (MARKED_AS_REVOKED, MARKED_AS_REVOKED_ANSWER),
         (MARKED_AGAIN, MARKED_AGAIN_ANSWER),
         (BAD_TEXTS, BAD_TEXTS_ANSWER),

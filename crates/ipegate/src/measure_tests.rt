@@ -49,7 +49,33 @@ fn files_have_their_digests(rt: HostRuntime) -> Result<(), Fail> {
             b"hello\n".to_vec(alloc)?,
             "sha256:8aa217b75b8db286240effcd74babc284694f9a68695be37d576ae2caa5db2e7\n",
         ),
+        (
+            "1024",
+            "-",
+            vec![in alloc; 7; 1]?,
+            "sha256:5133dfa7824b753a0e7bfe10115671f2766bb2a2f83d5647f7a1a2992a00d010\n",
+        ),
+        // One block less one byte.
+        (
+            "1024",
+            "-",
+            vec![in alloc; 7; 1023]?,
+            "sha256:6c7fe0da8cea0a209c79251b4b243e7cb7ac5d62596f3ca96818604bcecb1014\n",
+        ),
+        // One block: its digest is the root.
+        (
+            "1024",
+            "-",
+            vec![in alloc; 7; 1024]?,
+            "sha256:e4d87c32265d0ee7ab8eb76261fb6771017708292d8accc0c6a8ef4e8a3c64fd\n",
+        ),
         // One block and one byte.
+        (
+            "1024",
+            "-",
+            vec![in alloc; 7; 1025]?,
+            "sha256:477bc4ba2bbe261a40baefdd06d7ac5473f785afde85b7709cd77c9b7de45ced\n",
+        ),
         (
             "2048",
             "-",
