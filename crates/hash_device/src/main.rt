@@ -5,11 +5,12 @@
 
 ghost use Rattle.dmv_tree.specs.Blocks.{is_block_size};
 ghost use Rattle.std.specs.IoError.{error_kind};
-ghost use Rattle.std.specs.Prelude.{◌≡◌, ◌≢◌, ◌≤◌, ◌↔◌, ◌⊎◌, length, IfErr, IfOk, IsTrue};
+ghost use Rattle.std.specs.Prelude.{◌≡◌, ◌≢◌, ◌↔◌, ◌⊎◌, IfErr, IfOk, IsTrue};
 
 mod words;
 mod writing;
 
+use dmv_tree::Salt;
 use ipe_words::{Status, StdSink, StdSource};
 use std::io::ErrorKind;
 use std::process::ExitCode;
@@ -22,7 +23,13 @@ fn main(rt: HostRuntime) -> ExitCode {
         Ok((block_size, salt)) => {
             let mut source = StdSource::new(rt.reader());
             let mut sink = StdSink::new(std::io::writer(&rt));
-            write_hash_blocks(rt.alloc(), block_size, &salt, &mut source, &mut sink)
+            write_hash_blocks(
+                rt.alloc(),
+                block_size,
+                salt.as_slice(),
+                &mut source,
+                &mut sink,
+            )
         }
         Err(status) => status,
     };
@@ -30,8 +37,8 @@ fn main(rt: HostRuntime) -> ExitCode {
 }
 
 // What the two words behind the program's own name ask for, or the status that it ends with.
-fn asked(rt: &HostRuntime) -> Result<(u32, Vec<u8>), Status>
-    ensures rule { IfOk result (λ asked. IsTrue (is_block_size asked.0) × (length asked.1.items ≤ 256)) }
+fn asked(rt: &HostRuntime) -> Result<(u32, Salt), Status>
+    ensures rule { IfOk result (λ asked. IsTrue (is_block_size asked.0)) }
     ensures status { IfErr result (λ status. (status ≡ Status.Usage) ⊎ (status ≡ Status.NoMemory)) }
 {
     let mut words = match env::args(rt) {
@@ -41,11 +48,7 @@ fn asked(rt: &HostRuntime) -> Result<(u32, Vec<u8>), Status>
     let (Some(size), Some(salt), None) = (words.next(), words.next(), words.next()) else {
         return Err(Status::Usage);
     };
-    match asked_by(rt.alloc(), size.as_bytes(), salt.as_bytes()) {
-        Ok(Some(asked)) => Ok(asked),
-        Ok(None) => Err(Status::Usage),
-        Err(_) => Err(Status::NoMemory),
-    }
+    asked_by(size.as_bytes(), salt.as_bytes()).ok_or(Status::Usage)
 }
 
 // Words can't be read for want of memory, or because one is no text.

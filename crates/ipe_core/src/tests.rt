@@ -1,7 +1,10 @@
 ghost use Rattle.ipe_signer.specs.declared.signer.Verdict.TheVariants.{Trusted};
 
 use super::*;
-use ipe_policy::{Comm, Context, DigestBytes, Name, Object, Request, Subject, Which};
+use ipe_policy::{
+    Action, Comm, Context, DevName, DigestBytes, Found, Name, Object, PathName, Request, Subject,
+    Which,
+};
 use sha2::{Digest, Sha256};
 use std::alloc::Global;
 use std::process::Abort;
@@ -93,22 +96,31 @@ fn run_writes(
     Ok(())
 }
 
-// A program check of a boot file by pass 0.
-fn program_check(rt: &impl Abort, alloc: Global, state: &mut State) -> Result<CoreRuling, Fail> {
-    let event = Event::Claim {
+// A claim of pass 0, by the check of a boot file that is to be executed.
+fn boot_file_check() -> Result<Event, Fail> {
+    Ok(Event::Claim {
         pass: 0,
         request: Request::ExecCheck,
         subject: Subject {
             pid: 7,
             comm: Comm::read(b"sh").ok_or("a task's name")?,
         },
-        object: Object::NoFile,
+        object: Object::File {
+            path: PathName::read(b"/bin/sh").ok_or("a path")?,
+            dev: DevName::read(b"vda").ok_or("a device")?,
+            ino: 12,
+        },
         context: Context {
             boot: true,
             dm: None,
             fs: None,
         },
-    };
+    })
+}
+
+// The ruling on the check of a boot file.
+fn program_check(rt: &impl Abort, alloc: Global, state: &mut State) -> Result<CoreRuling, Fail> {
+    let event = boot_file_check()?;
     assert!(rt; state.allows(&event));
     match step(alloc, &TrustsAll, state, &event)? {
         Reply::Claimed(ruling) => Ok(ruling),
@@ -134,6 +146,77 @@ fn events_are_replied_to_one_after_another(rt: HostRuntime) -> Result<(), Fail> 
     });
     assert_eq!(rt; replies.as_slice(), [loaded].as_slice());
     assert_eq!(rt; state.registry().entries().len(), 1);
+    Ok(())
+}
+
+// Two machines that have come equally far, one by steps and one by runs.
+#[derive(Drop)]
+struct Machines {
+    stepped: State,
+    run: State,
+}
+
+impl Machines {
+    // Both give this reply to an event that is allowed.
+    fn reply_alike(
+        &mut self,
+        rt: &impl Abort,
+        alloc: Global,
+        signer: &TrustList,
+        event: Event,
+        reply: Reply,
+    ) -> Result<(), Fail> {
+        assert!(rt; self.stepped.allows(&event));
+        assert_eq!(rt; step(alloc, signer, &mut self.stepped, &event)?, reply);
+        assert!(rt; self.run.allows(&event));
+        let events = Events::from_vec(vec![in alloc; event]?);
+        let replies = run_events(alloc, signer, &mut self.run, &events)?;
+        assert_eq!(rt; replies.as_slice(), [reply].as_slice());
+        Ok(())
+    }
+}
+
+// What one who may administer asks for.
+fn command(act: Act) -> Event {
+    Event::Command(Command { may: true, act })
+}
+
+// The smallest whole story. Each line of the policy's text ends with its line feed.
+#[test]
+fn a_policy_is_loaded_and_activated_and_rules_on_a_boot_file(rt: HostRuntime) -> Result<(), Fail> {
+    let alloc = rt.alloc();
+    let signer = signer_of(alloc, A, &[(Purpose::Policy, Verdict::Trusted)])?;
+    let load = command(act_of(alloc, Write::Load(A))?);
+    let activation = command(act_of(alloc, Write::Activate("a", "1\n"))?);
+    let claim = boot_file_check()?;
+    let give_back = Event::Return { pass: 0 };
+    let loaded = Reply::Command(CoreOutcome {
+        epoch: 0,
+        reply: Ok(Done::Loaded),
+    });
+    let activated = Reply::Command(CoreOutcome {
+        epoch: 1,
+        reply: Ok(Done::Activated),
+    });
+    let allowed = Reply::Claimed(CoreRuling {
+        code: 0,
+        place: Some(Place { epoch: 1, count: 0 }),
+        serial: Some(1),
+        found: Some(Found {
+            action: Action::Allow,
+            which: Which::Rule(1),
+        }),
+        enforce: true,
+        record_due: false,
+    });
+    let mut machines = Machines {
+        stepped: State::new(alloc, 1)?,
+        run: State::new(alloc, 1)?,
+    };
+    machines.reply_alike(&rt, alloc, &signer, load, loaded)?;
+    machines.reply_alike(&rt, alloc, &signer, activation, activated)?;
+    machines.reply_alike(&rt, alloc, &signer, claim, allowed)?;
+    machines.reply_alike(&rt, alloc, &signer, give_back, Reply::Returned)?;
     Ok(())
 }
 
@@ -213,13 +296,8 @@ fn the_active_policy_stays(rt: HostRuntime) -> Result<(), Fail> {
     run_writes(&rt, alloc, &mut state, &writes)
 }
 
-// The code of a load of this text, where it is marked so.
-fn load_marked(
-    rt: &impl Abort,
-    alloc: Global,
-    text: &str,
-    marks: &[(Purpose, Verdict)],
-) -> Result<i32, Fail> {
+// The signer by whom this text is marked so.
+fn signer_of(alloc: Global, text: &str, marks: &[(Purpose, Verdict)]) -> Result<TrustList, Fail> {
     let digest = Sha256::digest(text.as_bytes());
     let mut items = Vec::new(alloc);
     for (purpose, verdict) in marks {
@@ -229,7 +307,17 @@ fn load_marked(
             digest: DigestBytes::read(&digest).ok_or("a digest")?,
         })?;
     }
-    let signer = TrustList::new(Marks::from_vec(items));
+    Ok(TrustList::new(Marks::from_vec(items)))
+}
+
+// The code of a load of this text, where it is marked so.
+fn load_marked(
+    rt: &impl Abort,
+    alloc: Global,
+    text: &str,
+    marks: &[(Purpose, Verdict)],
+) -> Result<i32, Fail> {
+    let signer = signer_of(alloc, text, marks)?;
     let mut state = State::new(alloc, 1)?;
     let act = Act::Load(text_of(alloc, text)?);
     Ok(answer_to(rt, alloc, &signer, &mut state, act)?.1)

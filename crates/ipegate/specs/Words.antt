@@ -1,9 +1,8 @@
 -- What the program's words ask of it.
 use Rattle.std.specs.Prelude.{ℕ, Bool, true, false, ◌&&◌, nat_le, codes, if◌then◌else◌, List, [], ◌∷◌, length, Option}
 use Rattle.std.specs.Prelude.{Some, None, IfSome, ◌⊎◌}
-use Rattle.std.specs.Result.{result_ok}
-use Rattle.hex.specs.Hex.{decode_of}
 use Rattle.blk_device.specs.Contents.{Contents}
+use Rattle.dmv_tree.specs.Words.{block_size_of, salt_of}
 use Rattle.ipe_policy.specs.Words.{is_text, is_visible, is_word}
 use Rattle.ipegate.specs.Program.{IsReplay, IsRefusal, Writes, WritesPrefix}
 use Rattle.ipegate.specs.Lint.{IsLinted, IsLintRefusal}
@@ -23,17 +22,6 @@ file_block_size_of word =
     if is_text (codes "1024") word then Some 1024
     else if is_text (codes "2048") word then Some 2048
     else if is_text (codes "4096") word then Some 4096
-    else None
-
--- the size of a block of a device, in bytes: 512 too
-abbrev pub block_size_of : List ℕ → Option ℕ
-block_size_of word = if is_text (codes "512") word then Some 512 else file_block_size_of word
-
--- a salt: a dash for none, or from 2 to so many hexadecimal digits of either case, an even number of them
-abbrev pub salt_of : ℕ → List ℕ → Option (List ℕ)
-salt_of most_digits word =
-    if is_text (codes "-") word then Some []
-    else if nat_le 2 (length word) && nat_le (length word) most_digits then result_ok (decode_of word)
     else None
 
 -- a device: 1 to 255 visible bytes

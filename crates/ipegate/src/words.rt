@@ -2,19 +2,17 @@ ghost use Rattle.std.specs.Prelude.{◌≡◌, ◌≢◌, ◌≤◌, ◌*◌, �
 ghost use Rattle.std.specs.Prelude.{length, IfSome, IsTrue};
 ghost use Rattle.ipe_words.specs.Count.{Rose};
 ghost use Rattle.blk_device.specs.Contents.{Contents};
-ghost use Rattle.dmv_tree.specs.Blocks.{is_block_size};
 ghost use Rattle.fsv_tree.specs.Blocks.{is_block_size as is_file_block_size};
-ghost use Rattle.ipegate.specs.Words.{asks_devices, block_size_of, file_block_size_of, is_device, measure_by};
-ghost use Rattle.ipegate.specs.Words.{reads_source, root_by, salt_of};
+ghost use Rattle.ipegate.specs.Words.{asks_devices, file_block_size_of, is_device, measure_by};
+ghost use Rattle.ipegate.specs.Words.{reads_source, root_by};
 ghost use Rattle.ipegate.specs.Words.{WritesDone, WritesRefused, WritesSome};
 
 use crate::{measure, root};
-use arrayvec::ArrayVec;
 use blk_device::Devices;
+use dmv_tree::{Salt, block_size_of};
 use ipe_policy::is_visible_word;
 use ipe_words::{Sink, Source, Status};
 use std::alloc::Global;
-use std::marker::Model;
 
 /// The most digits of the salt of a device's tree.
 const MOST_DEVICE_DIGITS: usize = 512;
@@ -24,31 +22,6 @@ const MOST_DEVICE_NAME: usize = 255;
 
 /// The most digits of the salt of a file's tree.
 const MOST_FILE_DIGITS: usize = 64;
-
-// The salt of a tree.
-#[derive(Drop)]
-struct Salt {
-    bytes: ArrayVec<u8, 256>,
-}
-
-impl Model for Salt {
-    ghost use Rattle.std.specs.Prelude.{List, ℕ, ◌≤◌, length};
-
-    ghost Value = { List ℕ };
-
-    ghost view = { λ s. s.bytes.items };
-
-    ghost invariant = { λ s. length s.bytes.items ≤ 256 };
-}
-
-impl Salt {
-    fn as_slice(&self) -> &[u8]
-        ensures bytes { result.now ≡ self.now }
-        ensures few { length self.now ≤ 256 }
-    {
-        self.bytes.as_slice()
-    }
-}
 
 /// What `measure` writes of the source, by its two words: the size of a block and the salt.
 pub(crate) fn measure_by_words<S: Source, K: Sink>(
@@ -81,7 +54,7 @@ pub(crate) fn measure_by_words<S: Source, K: Sink>(
     let Some(block_size) = file_block_size_of(block_size) else {
         return Status::Usage;
     };
-    let Some(salt) = salt_of(salt, MOST_FILE_DIGITS) else {
+    let Some(salt) = Salt::read(salt, MOST_FILE_DIGITS) else {
         return Status::Usage;
     };
     measure(alloc, block_size, salt.as_slice(), source, sink)
@@ -119,23 +92,13 @@ pub(crate) fn root_by_words<K: Sink, D: Devices>(
     let Some(block_size) = block_size_of(block_size) else {
         return Status::Usage;
     };
-    let Some(salt) = salt_of(salt, MOST_DEVICE_DIGITS) else {
+    let Some(salt) = Salt::read(salt, MOST_DEVICE_DIGITS) else {
         return Status::Usage;
     };
     if !is_device(device) {
         return Status::Usage;
     }
     root(alloc, block_size, salt.as_slice(), device, sink, devices)
-}
-
-fn block_size_of(word: &[u8]) -> Option<u32>
-    ensures size { result ≡ block_size_of word.now }
-    ensures rule { IfSome result (λ size. IsTrue (is_block_size size)) }
-{
-    if word == b"512".as_slice() {
-        return Some(512);
-    }
-    file_block_size_of(word)
 }
 
 fn file_block_size_of(word: &[u8]) -> Option<u32>
@@ -152,32 +115,6 @@ fn file_block_size_of(word: &[u8]) -> Option<u32>
         return Some(4096);
     }
     None
-}
-
-fn salt_of(word: &[u8], most_digits: usize) -> Option<Salt>
-    requires { most_digits ≤ 512 }
-    ensures salt { result ≡ salt_of most_digits word.now }
-    ensures few { IfSome result (λ salt. 2 * length salt ≤ most_digits) }
-{
-    if word == b"-".as_slice() {
-        return Some(Salt { bytes: held(&[]) });
-    }
-    if word.len() < 2 || word.len() > most_digits {
-        return None;
-    }
-    let mut buffer = [0u8; 256];
-    let bytes = &mut buffer[..word.len() / 2];
-    hex::decode_to_slice(word, bytes).ok()?;
-    Some(Salt { bytes: held(bytes) })
-}
-
-fn held(bytes: &[u8]) -> ArrayVec<u8, 256>
-    requires { length bytes.now ≤ 256 }
-    ensures { result.items ≡ bytes.now }
-{
-    let mut held = ArrayVec::new();
-    let _fits = held.try_extend_from_slice(bytes);
-    held
 }
 
 fn is_device(word: &[u8]) -> bool
