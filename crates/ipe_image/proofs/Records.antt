@@ -12,7 +12,7 @@ use Rattle.ipe_policy.specs.Evaluation.{matches}
 use Rattle.ipe_image.specs.Parts.{ImageParts}
 use Rattle.ipe_image.specs.Image.{records, rule_head, rule_record, words_used}
 use Rattle.ipe_image.specs.Reading.{fits_rule}
-use Rattle.ipe_image.specs.Heads.{AreProperties, IsRuleHead}
+use Rattle.ipe_image.specs.Heads.{IsRuleHead}
 use Rattle.ipe_image.specs.Decision.{first_match_in}
 use Rattle.ipe_image.specs.Found.{IsRecordAt}
 use Rattle.ipe_image.proofs.Sizes.{few-rule_words, fewer-rules, length-rule_record}

@@ -1,3 +1,6 @@
+ghost use Rattle.std.specs.Prelude.{◌≡◌};
+ghost use Rattle.ipe_policy.specs.Policy.{IsNamedDigest};
+
 use crate::{Image, SliceReader, compile, decide_words, rule_text};
 use ipe_policy::{
     Action, AlgName, Context, Digest, DigestBytes, Name, Op, Policy, Properties, Property, Signed,
@@ -12,7 +15,9 @@ const VERSION: Version = Version {
     rev: 0,
 };
 
-fn digest(rt: &impl std::process::Abort, alg: &[u8], bytes: &[u8]) -> Digest {
+fn digest(rt: &impl std::process::Abort, alg: &[u8], bytes: &[u8]) -> Digest
+    ensures { result ≡ record { alg = alg.now; bytes = bytes.now } }
+{
     Digest {
         alg: AlgName::read(alg).expect(rt, "a name"),
         bytes: DigestBytes::read(bytes).expect(rt, "a digest"),
@@ -95,7 +100,10 @@ fn volume_policy(
     name: Name,
     root: Digest,
     other: Digest,
-) -> Result<Policy, AllocError> {
+) -> Result<Policy, AllocError>
+    requires root { IsNamedDigest root }
+    requires other { IsNamedDigest other }
+{
     let signed = Properties::from_vec(vec![in alloc; Property::DmveritySignature(true)]?);
     let root = Properties::from_vec(vec![in alloc; Property::DmverityRoothash(root)]?);
     let other = Properties::from_vec(vec![in alloc; Property::DmverityRoothash(other)]?);
@@ -158,12 +166,10 @@ fn decides_from_words(rt: HostRuntime) -> Result<(), Fail> {
     Ok(())
 }
 
-fn wide_policy(
-    alloc: Global,
-    name: Name,
-    root: Digest,
-    file: Digest,
-) -> Result<Policy, AllocError> {
+fn wide_policy(alloc: Global, name: Name, root: Digest, file: Digest) -> Result<Policy, AllocError>
+    requires root { IsNamedDigest root }
+    requires file { IsNamedDigest file }
+{
     let props = Properties::from_vec(vec![in alloc;
         Property::FsverityDigest(file),
         Property::BootVerified(false),

@@ -8,8 +8,8 @@ mod Digests
 mod SpelledProperties
 mod SpelledStatements
 mod Defaults
+mod KeptRules
 pub mod Readings
-mod Printable
 mod Bytes
 mod Values
 mod Printings

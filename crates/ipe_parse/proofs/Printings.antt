@@ -17,13 +17,13 @@ use Rattle.ipe_policy.specs.declared.statement.Property.TheVariants.{BootVerifie
 use Rattle.ipe_policy.specs.declared.statement.Statement.{Statement}
 use Rattle.ipe_policy.specs.declared.statement.Statement.TheVariants.{Rule, OpDefault, GlobalDefault}
 use Rattle.ipe_policy.specs.declared.version.Version.{Version}
+use Rattle.ipe_policy.specs.Policy.{IsNamedDigest, IsProperty, IsStatement}
 use Rattle.ipe_policy.specs.Words.{is_alg_byte, is_digit, is_name, is_name_byte, is_text, is_word}
 use Rattle.ipe_policy.specs.Spelling.{action_token, digest_word, op_token, property_token, statement_tokens, version_text}
 use Rattle.ipe_parse.specs.Reads.{SpellsDigest, SpellsProperty, SpellsStatement}
-use Rattle.ipe_parse.specs.Printed.{IsPrintableDigest, IsPrintableProperty, IsPrintableStatement, IsPrintableVersion}
 use Rattle.ipe_parse.proofs.Bytes.{IsWord, all-append, all-weaker, is_plain}
 use Rattle.ipe_parse.proofs.Digests.{alg-bytes}
-use Rattle.ipe_parse.proofs.Values.{bytes-by_index, decimal-digits, hex_bytes-encode_lower}
+use Rattle.ipe_parse.proofs.Values.{IsSmall, bytes-by_index, decimal-digits, hex_bytes-encode_lower}
 
 -- ---- each token is a word
 
@@ -40,7 +40,7 @@ hex-plain : (byte : ℕ) → is_hex_digit byte ≡ true → is_plain byte ≡ tr
 hex-plain byte h = grind (arith, nat_tests)
 
 -- the bytes of a digest
-digest-plain : (digest : Digest) → IsPrintableDigest digest → list_all is_plain (digest_word digest) ≡ true
+digest-plain : (digest : Digest) → IsNamedDigest digest → list_all is_plain (digest_word digest) ≡ true
 digest-plain digest h =
     let bytes : IsBytes digest.bytes = bytes-by_index digest.bytes h.bytes in
     let ok = decode_of-ok (encode_lower digest.bytes) digest.bytes (decode_of-encode_lower digest.bytes bytes) in
@@ -68,7 +68,7 @@ action-word Allow = record { plain = refl; not_empty = omega arith }
 action-word Deny = record { plain = refl; not_empty = omega arith }
 
 -- the token of a property is a word
-property-word : (property : Property) → IsPrintableProperty property → IsWord (property_token property)
+property-word : (property : Property) → IsProperty property → IsWord (property_token property)
 property-word (BootVerified true) h = record { plain = refl; not_empty = omega arith }
 property-word (BootVerified false) h = record { plain = refl; not_empty = omega arith }
 property-word (DmverityRoothash digest) h = behind_key (codes "dmverity_roothash=") (digest_word digest) refl (omega arith) (digest-plain digest h)
@@ -79,12 +79,12 @@ property-word (FsveritySignature true) h = record { plain = refl; not_empty = om
 property-word (FsveritySignature false) h = record { plain = refl; not_empty = omega arith }
 
 -- the tokens of a rule behind its operation are words
-rule-words : (properties : List Property) (action : Action) → AllByRecursion IsPrintableProperty properties → AllByRecursion IsWord (map property_token properties ++ action_token action ∷ [])
+rule-words : (properties : List Property) (action : Action) → AllByRecursion IsProperty properties → AllByRecursion IsWord (map property_token properties ++ action_token action ∷ [])
 rule-words [] action h = (action-word action, tt)
 rule-words (property ∷ properties) action h = (property-word property h.0, rule-words properties action h.1)
 
 -- each token of a statement is a word
-pub statement-words : (statement : Statement) → IsPrintableStatement statement → AllByRecursion IsWord (statement_tokens statement)
+pub statement-words : (statement : Statement) → IsStatement statement → AllByRecursion IsWord (statement_tokens statement)
 statement-words (Rule op properties action) h = (op-word op, rule-words properties action h.each)
 statement-words (OpDefault op action) h = (record { plain = refl; not_empty = omega arith }, (op-word op, (action-word action, tt)))
 statement-words (GlobalDefault action) h = (record { plain = refl; not_empty = omega arith }, (action-word action, tt))
@@ -103,7 +103,7 @@ name-bytes name h =
     (and_parts _ (list_all is_name_byte name) second.0).1
 
 -- the bytes of a version
-version-plain : (version : Version) → IsPrintableVersion version → list_all is_plain (version_text version) ≡ true
+version-plain : (version : Version) → IsSmall version → list_all is_plain (version_text version) ≡ true
 version-plain version h =
     let a : List ℕ = decimal version.major in
     let b : List ℕ = decimal version.minor in
@@ -117,7 +117,7 @@ abbrev pub header_tokens : List ℕ → Version → List (List ℕ)
 header_tokens name version = (codes "policy_name=" ++ name) ∷ (codes "policy_version=" ++ version_text version) ∷ []
 
 -- both tokens of the header are words
-pub header-words : (name : List ℕ) (version : Version) → is_name name ≡ true → IsPrintableVersion version → AllByRecursion IsWord (header_tokens name version)
+pub header-words : (name : List ℕ) (version : Version) → is_name name ≡ true → IsSmall version → AllByRecursion IsWord (header_tokens name version)
 header-words name version n v = (
   behind_key (codes "policy_name=") name refl (omega arith) (all-weaker is_name_byte is_plain name-plain name (name-bytes name n)),
   (behind_key (codes "policy_version=") (version_text version) refl (omega arith) (version-plain version v), tt),
@@ -132,7 +132,7 @@ each-made make P R one [] h = tt
 each-made make P R one (x ∷ xs) h = (one x h.0, each-made make P R one xs h.1)
 
 -- the word of a digest spells it
-digest-spells : (digest : Digest) → IsPrintableDigest digest → SpellsDigest (digest_word digest) digest
+digest-spells : (digest : Digest) → IsNamedDigest digest → SpellsDigest (digest_word digest) digest
 digest-spells digest h = record {
   digits = encode_lower digest.bytes;
   whole = refl;
@@ -141,7 +141,7 @@ digest-spells digest h = record {
 }
 
 -- the token of a property spells it
-property-spells : (property : Property) → IsPrintableProperty property
+property-spells : (property : Property) → IsProperty property
     → SpellsProperty (property_token property) property
 property-spells (BootVerified wanted) h = refl
 property-spells (DmverityRoothash digest) h = (digest_word digest, refl, digest-spells digest h)
@@ -150,10 +150,10 @@ property-spells (FsverityDigest digest) h = (digest_word digest, refl, digest-sp
 property-spells (FsveritySignature wanted) h = refl
 
 -- the tokens of a statement spell it
-pub statement-spells : (statement : Statement) → IsPrintableStatement statement
+pub statement-spells : (statement : Statement) → IsStatement statement
     → SpellsStatement (statement_tokens statement) statement
 statement-spells (Rule op properties action) h =
-    let each = each-made property_token IsPrintableProperty SpellsProperty property-spells properties h.each in
+    let each = each-made property_token IsProperty SpellsProperty property-spells properties h.each in
     (map property_token properties, refl, each, h.few)
 statement-spells (OpDefault op action) h = refl
 statement-spells (GlobalDefault action) h = refl

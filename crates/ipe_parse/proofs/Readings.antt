@@ -1,6 +1,6 @@
 -- Texts that read as a policy are read as it, and no others are.
 use Rattle.std.proofs.Common.{◌≡◌, ℕ, ◌≤◌, ◌⊎◌, inl, inr, Bool, true, false, cond, List, [], ◌∷◌, ◌++◌, length, map, Option, Some, None, Result, Ok, Err, IfOk, IfErr, refl, sym, ◌∙◌, ap, arith, subst, append_assoc, append-nil, codes}
-use Rattle.std.specs.List.{AllZip}
+use Rattle.std.specs.List.{AllByRecursion, AllZip}
 use Rattle.std.proofs.lemmas.List.{length-map}
 use Rattle.std.proofs.lemmas.List.Sums.{count_by-le-length, length-filter}
 use Rattle.std.proofs.lemmas.Slice.Zip.{AllZip-long}
@@ -10,7 +10,7 @@ use Rattle.ipe_policy.specs.declared.op.Op.{Op}
 use Rattle.ipe_policy.specs.declared.statement.Statement.{Statement}
 use Rattle.ipe_policy.specs.declared.version.Version.{Version}
 use Rattle.ipe_policy.specs.Words.{is_name}
-use Rattle.ipe_policy.specs.Policy.{PolicyParts, IsPolicy}
+use Rattle.ipe_policy.specs.Policy.{PolicyParts, IsPolicy, IsStatement}
 use Rattle.ipe_parse.specs.declared.error.BadKind.{BadKind}
 use Rattle.ipe_parse.specs.declared.error.BadKind.TheVariants.{TwiceDefault}
 use Rattle.ipe_parse.specs.declared.error.BadText.{BadText}
@@ -25,6 +25,7 @@ use Rattle.ipe_parse.specs.Walk.{spoken_of}
 use Rattle.ipe_parse.proofs.DraftLemmas.{IsOnce-push, each-has-one}
 use Rattle.ipe_parse.proofs.SpokenLemmas.{placed_lines-few, spoken_lines-placed}
 use Rattle.ipe_parse.specs.Reads.{HasFault, Reads, ReadsAsOne, Refuses, SpellsStatement}
+use Rattle.ipe_parse.proofs.KeptRules.{spelled-keep_rules}
 use Rattle.ipe_parse.proofs.Steps.{then-ok, then-parts}
 use Rattle.ipe_parse.proofs.Defaults.{missing-none, repeats-none}
 use Rattle.ipe_parse.proofs.SpelledStatements.{SpellsHeader, header-read, header-spelled, statement-read, statement-spelled}
@@ -102,6 +103,13 @@ statements-spelled (line ∷ lines) before items once e =
 -- no statements give no default twice
 no-statement-once : IsOnce []
 no-statement-once = record { op_once = λ op. omega arith; global_once = omega arith }
+
+-- statements that are read keep the rules on their properties
+pub read-keep_rules : (lines : List SpokenLine) (items : List Statement) → statements_from [] lines ≡ Ok items
+    → AllByRecursion IsStatement items
+read-keep_rules lines items e =
+    let behind = statements-spelled lines [] items no-statement-once e in
+    subst (AllByRecursion IsStatement) (sym behind.whole) (spelled-keep_rules (tokens_on lines) behind.more behind.each)
 
 -- ---- a whole text
 
@@ -213,6 +221,7 @@ reads-by text policy small says = record {
     global_once = says.once.global_once;
     op_once = says.once.op_once;
     each_has_one = each-has-one policy.items says.complete;
+    statements = spelled-keep_rules (tokens_on says.lines) policy.items says.each;
   };
 }
 

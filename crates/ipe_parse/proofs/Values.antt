@@ -13,7 +13,6 @@ use Rattle.ipe_policy.specs.Words.{is_digit}
 use Rattle.ipe_policy.specs.Version.{digits_onto, is_dot, part_of, version_of}
 use Rattle.ipe_policy.specs.Spelling.{version_text}
 use Rattle.ipe_parse.specs.Tokens.{hex_bytes}
-use Rattle.ipe_parse.specs.Printed.{IsPrintableVersion}
 use Rattle.ipe_parse.proofs.Bytes.{after-at, all-weaker, before-at}
 
 -- ---- versions
@@ -58,8 +57,14 @@ version-read a b c x y z da db ea eb ec =
     let third : after_first is_dot (b ++ 46 ∷ c) ≡ c = after-at is_dot b 46 c nb refl in
     rw (first, rest, second, third, ea, eb, ec)
 
+-- each part of the version fits into 16 bits
+pub record IsSmall (version : Version) : Type 0 where
+  pub major : version.major < 65536
+  pub minor : version.minor < 65536
+  pub rev : version.rev < 65536
+
 -- a version is read as itself
-pub version_of-text : (version : Version) → IsPrintableVersion version → version_of (version_text version) ≡ Some version
+pub version_of-text : (version : Version) → IsSmall version → version_of (version_text version) ≡ Some version
 version_of-text version h =
     ap version_of (version_text-parts (decimal version.major) (decimal version.minor) (decimal version.rev))
     ∙ version-read (decimal version.major) (decimal version.minor) (decimal version.rev) version.major version.minor version.rev

@@ -1,16 +1,16 @@
 -- The text of a printed policy reads as that policy.
-use Rattle.std.proofs.Common.{◌≡◌, ℕ, ◌+◌, ◌<◌, codes, List, [], ◌∷◌, ◌++◌, length, map, filter, Ok, refl, ap, ◌∙◌, arith, append_assoc, lt-ltb}
+use Rattle.std.proofs.Common.{◌≡◌, ℕ, ◌+◌, ◌<◌, true, codes, List, [], ◌∷◌, ◌++◌, length, map, filter, Ok, refl, ap, ◌∙◌, arith, append_assoc, lt-ltb}
 use Rattle.std.specs.List.{flat_map, enumerate_from, AllByRecursion}
 use Rattle.ipe_lex.specs.Lines.{lines_of, tokens_of, uncommented}
 use Rattle.ipe_policy.specs.declared.statement.Statement.{Statement}
 use Rattle.ipe_policy.specs.declared.statement.Statement.TheVariants.{Rule, OpDefault, GlobalDefault}
-use Rattle.ipe_policy.specs.Policy.{PolicyParts}
+use Rattle.ipe_policy.specs.Policy.{IsPolicy, IsStatement, PolicyParts}
+use Rattle.ipe_policy.specs.Words.{is_name}
 use Rattle.ipe_policy.specs.Spelling.{header_text, joined, policy_text, statement_text, statement_tokens, version_text}
 use Rattle.ipe_parse.specs.Reading.{SpokenLine, is_spoken, reading, spoken_lines}
 use Rattle.ipe_parse.specs.Reads.{Reads, SpellsStatement}
-use Rattle.ipe_parse.specs.Printed.{IsPrintable, IsPrintableStatement}
 use Rattle.ipe_parse.proofs.Bytes.{IsWord, line-first, line-words}
-use Rattle.ipe_parse.proofs.Values.{version_of-text}
+use Rattle.ipe_parse.proofs.Values.{IsSmall, version_of-text}
 use Rattle.ipe_parse.proofs.Printings.{each-made, header-words, header_tokens, statement-spells, statement-words}
 use Rattle.ipe_parse.proofs.Readings.{is-read, tokens_on}
 
@@ -47,7 +47,7 @@ statement-some (OpDefault op action) = omega arith
 statement-some (GlobalDefault action) = omega arith
 
 -- each statement is a line of words
-statements-lines : (items : List Statement) → AllByRecursion IsPrintableStatement items
+statements-lines : (items : List Statement) → AllByRecursion IsStatement items
     → AllByRecursion IsLine (map statement_tokens items)
 statements-lines [] h = tt
 statements-lines (item ∷ items) h =
@@ -68,21 +68,23 @@ policy-text policy =
     (append_assoc (codes "policy_name=" ++ policy.name) (codes " policy_version=") (version_text policy.version))
 
 -- a printed policy reads as itself
-printed-reads : (policy : PolicyParts) → IsPrintable policy → Reads (policy_text policy) policy
-printed-reads policy h =
-    let words = header-words policy.name policy.version h.name h.version in
-    let lines = statements-lines policy.items h.statements in
+printed-reads : (policy : PolicyParts) → is_name policy.name ≡ true → IsSmall policy.version → IsPolicy policy.items
+    → Reads (policy_text policy) policy
+printed-reads policy name version rules =
+    let words = header-words policy.name policy.version name version in
+    let lines = statements-lines policy.items rules.statements in
     record {
       version_word = version_text policy.version;
       lines = map statement_tokens policy.items;
       whole = ap (λ (text : List ℕ). tokens_on (spoken_lines text)) (policy-text policy)
           ∙ text-tokens 1 (policy_lines policy) (record { words = words; some = omega arith }, lines);
-      name = h.name;
-      version = version_of-text policy.version h.version;
-      statements = each-made _ IsPrintableStatement SpellsStatement statement-spells policy.items h.statements;
-      keeps_rules = h.is_policy;
+      name = name;
+      version = version_of-text policy.version version;
+      statements = each-made _ IsStatement SpellsStatement statement-spells policy.items rules.statements;
+      keeps_rules = rules;
     }
 
 -- a printed policy is read as itself
-pub policy-read : (policy : PolicyParts) → IsPrintable policy → reading (policy_text policy) ≡ Ok policy
-policy-read policy h = is-read (policy_text policy) policy (printed-reads policy h)
+pub policy-read : (policy : PolicyParts) → is_name policy.name ≡ true → IsSmall policy.version → IsPolicy policy.items
+    → reading (policy_text policy) ≡ Ok policy
+policy-read policy name version rules = is-read (policy_text policy) policy (printed-reads policy name version rules)

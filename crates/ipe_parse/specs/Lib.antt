@@ -5,4 +5,3 @@ pub mod Given
 pub mod Reading
 pub mod Walk
 pub mod Reads
-pub mod Printed

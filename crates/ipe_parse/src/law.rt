@@ -2,9 +2,10 @@ ghost use Rattle.std.specs.Prelude.{◌≡◌, ◌≤◌, ◌⊎◌, ℕ, List, 
 ghost use Rattle.ipe_policy.specs.Policy.{PolicyParts};
 ghost use Rattle.ipe_policy.specs.Spelling.{policy_text};
 ghost use Rattle.ipe_parse.specs.declared.error.BadText.{BadText};
-ghost use Rattle.ipe_parse.specs.Printed.{IsPrintable};
 ghost use Rattle.ipe_parse.specs.Reading.{reading};
 ghost use Rattle.ipe_parse.specs.Reads.{HasFault, Reads, ReadsAsOne};
+
+use ipe_policy::Policy;
 
 /// A text of at most 1,048,576 bytes either reads as exactly one policy or has a first fault, never both. What a text
 /// reads as, of whatever length, is what the definition `reading` gives by examining the lines from the top; up to that
@@ -17,7 +18,14 @@ pub fn reads_or_has_a_fault()
         ((policy : PolicyParts) × ReadsAsOne text policy) ⊎ ((fault : BadText) × HasFault text fault) }
 {}
 
-/// What is printed is read as itself.
-pub fn printed_is_read()
-    ensures { (policy : PolicyParts) → IsPrintable policy → reading (policy_text policy) ≡ Ok policy }
-{}
+/// What is printed of a policy is read as that policy: `parse` of the printed text answers it, where the text is not too
+/// long to be parsed.
+pub fn printed_is_read(policy: &Policy)
+    ensures { reading (policy_text policy.now) ≡ Ok policy.now }
+{
+    // The law stands on what the types keep, which is known of parts that are looked at.
+    let _name = policy.name.as_slice();
+    let _major = policy.version.major;
+    let _minor = policy.version.minor;
+    let _rev = policy.version.rev;
+}

@@ -1,6 +1,7 @@
 ghost use Rattle.std.specs.Prelude.{◌≡◌, ◌≤◌, IfErr, IfOk, length};
+ghost use Rattle.std.specs.List.{AllByRecursion};
+ghost use Rattle.ipe_policy.specs.Policy.{IsStatement};
 ghost use Rattle.ipe_parse.specs.Defaults.{first_missing};
-ghost use Rattle.ipe_parse.specs.Printed.{IsPrintable};
 ghost use Rattle.ipe_parse.specs.Reading.{Gives, IsReading, completed, reading, reading_of_lines};
 ghost use Rattle.ipe_parse.specs.Reads.{ReadsAsOne, Refuses};
 ghost use Rattle.ipe_parse.specs.Walk.{spoken_left};
@@ -18,7 +19,8 @@ use std::alloc::Global;
 
 // The policy of a header and statements, where no operation is left without a default.
 fn finished(header: Header, draft: Draft) -> Result<Policy, ParseError>
-    requires { length draft.items.items ≤ 1048576 }
+    requires few { length draft.items.items ≤ 1048576 }
+    requires statements { AllByRecursion IsStatement draft.items.items }
     ensures { Gives (λ policy. policy) result (completed header draft.items.items (first_missing draft.items.items)) }
 {
     if let Some(missing) = draft.first_missing() {
@@ -51,13 +53,11 @@ fn read_lines(alloc: Global, walk: &mut LineWalk<'_>) -> Result<Policy, ParseErr
     finished(header, draft)
 }
 
-/// The policy that a text reads as, and the only one, or else the text's first fault, where it reads as none. The
-/// policy is one of which `printed_is_read` speaks: what is printed of it is read as itself.
+/// The policy that a text reads as, and the only one, or else the text's first fault, where it reads as none.
 pub fn parse(alloc: Global, text: &[u8]) -> Result<Policy, ParseError>
     requires { length text.now ≤ 1048576 }
     ensures reading { IsReading result (reading text.now) }
     ensures policy { IfOk result (ReadsAsOne text.now) }
-    ensures printable { IfOk result IsPrintable }
     ensures refused { IfErr result (Refuses text.now) }
 {
     read_lines(alloc, &mut lines(text))

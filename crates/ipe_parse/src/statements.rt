@@ -1,5 +1,7 @@
 ghost use Rattle.std.specs.Prelude.{◌≡◌, ◌≤◌, [], false, IfOk, length};
+ghost use Rattle.std.specs.List.{AllByRecursion};
 ghost use Rattle.ipe_lex.specs.Walks.{lines_left};
+ghost use Rattle.ipe_policy.specs.Policy.{IsStatement};
 ghost use Rattle.ipe_parse.specs.Defaults.{repeats_default};
 ghost use Rattle.ipe_parse.specs.Reading.{Gives, next_statement, statements_from};
 ghost use Rattle.ipe_parse.specs.Walk.{spoken_left, spoken_line};
@@ -39,6 +41,7 @@ fn next_statement(alloc: Global, draft: &Draft, line: &Spoken<'_>) -> Result<Sta
 pub(crate) fn statements_in(alloc: Global, walk: &mut LineWalk<'_>) -> Result<Draft, ParseError>
     ensures read { Gives (λ draft. draft.items.items) result (statements_from [] (spoken_left walk.old)) }
     ensures few { IfOk result (λ draft. length draft.items.items ≤ length (lines_left walk.old)) }
+    ensures statements { IfOk result (λ draft. AllByRecursion IsStatement draft.items.items) }
 {
     let mut draft = Draft::new(alloc);
     while let Some(line) = next_spoken(alloc, walk)? {

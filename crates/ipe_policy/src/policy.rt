@@ -34,8 +34,8 @@ impl Statements {
     }
 }
 
-/// A policy. No default is given twice, each operation has a default of its own or there is a global one, and there are
-/// at most 1,048,576 statements.
+/// A policy. No default is given twice, each operation has a default of its own or there is a global one, the digest of
+/// a property has 1 to 64 bytes, and there are at most 1,048,576 statements.
 #[derive(Debug, Drop)]
 pub struct Policy {
     pub name: Name,

@@ -1,3 +1,5 @@
+ghost use Rattle.ipe_policy.specs.Policy.{IsNamedDigest};
+
 use crate::{
     Action, AlgName, Comm, Context, DevName, Digest, DigestBytes, Found, Kind, Name, Op, PathName,
     Policy, Properties, Property, Request, Signed, Statement, Statements, Version, Which, decide,
@@ -103,7 +105,9 @@ fn knows_the_operation_of_a_request(rt: HostRuntime) {
     assert_eq!(rt; Request::KernelLoad(Kind::X509).op(), Some(Op::X509Cert));
 }
 
-fn small_policy(alloc: Global, name: Name, digest: Digest) -> Result<Policy, AllocError> {
+fn small_policy(alloc: Global, name: Name, digest: Digest) -> Result<Policy, AllocError>
+    requires { IsNamedDigest digest }
+{
     let boot = Properties::from_vec(vec![in alloc; Property::BootVerified(true)]?);
     let unsigned = Properties::from_vec(vec![in alloc;
         Property::DmveritySignature(false),
@@ -145,7 +149,9 @@ fn small_policy(alloc: Global, name: Name, digest: Digest) -> Result<Policy, All
     })
 }
 
-fn small_digest(rt: &impl std::process::Abort) -> Digest {
+fn small_digest(rt: &impl std::process::Abort) -> Digest
+    ensures { IsNamedDigest result }
+{
     Digest {
         alg: AlgName::read(b"sha256").expect(rt, "a name"),
         bytes: DigestBytes::read(&[0, 0xFF]).expect(rt, "a digest"),

@@ -8,8 +8,9 @@ invariant_of-result c =
     let items = c.args.draft.items.items in
     let none : first_missing items ≡ None = cc in
     rw c.from_vec.ensures (record {
-      few = c.requires;
+      few = c.requires.few;
       global_once = c.args.draft.once.global_once;
       op_once = c.args.draft.once.op_once;
       each_has_one = each-has-one items none;
+      statements = c.requires.statements;
     })

@@ -1,5 +1,4 @@
 use Rattle.std.proofs.Common.{map, filter, ap, ◌∙◌, arith}
-use Rattle.ipe_parse.proofs.Printable.{answered-printable}
 use Rattle.ipe_parse.proofs.Readings.{answered-fault, answered-policy}
 use Rattle.ipe_parse.proofs.SpokenLemmas.{placed_lines-few, spoken_lines-placed}
 use Rattle.ipe_parse.specs.Reading.{is_spoken, reading}
@@ -17,10 +16,6 @@ returns-clause-reading c =
 
 pub returns-clause-policy : goal.returns-clause-policy
 returns-clause-policy c = answered-policy c.args.text.now c.read_lines.result c.requires (returns-clause-reading c)
-
-pub returns-clause-printable : goal.returns-clause-printable
-returns-clause-printable c =
-    answered-printable c.args.text.now c.read_lines.result c.requires (returns-clause-reading c)
 
 pub returns-clause-refused : goal.returns-clause-refused
 returns-clause-refused c = answered-fault c.args.text.now c.read_lines.result (returns-clause-reading c)
