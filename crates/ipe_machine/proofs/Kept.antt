@@ -1,5 +1,5 @@
 -- What each command keeps of the active policy: one stays active, and its version doesn't fall.
-use Rattle.std.proofs.Common.{◌≡◌, ℕ, ◌+◌, ◌≤◌, ◌&&◌, not, eqb, Bool, true, false, cond, List, [], ◌∷◌, ◌++◌, length, get_or, Option, Some, None, Result, Ok, Err, refl, sym, ap, subst, ◌∙◌, inl, inr, ◌⊎◌, arith}
+use Rattle.std.proofs.Common.{◌≡◌, ℕ, ◌+◌, ◌≤◌, not, eqb, Bool, true, false, cond, List, [], ◌∷◌, ◌++◌, length, get_or, Option, Some, None, Result, Ok, Err, refl, sym, ap, subst, ◌∙◌, inl, inr, ◌⊎◌, arith}
 use Rattle.std.specs.Prelude.{is_none, nat_lt}
 use Rattle.std.specs.List.{find, slice_set, remove}
 use Rattle.std.specs.Option.{option_map_or, option_and_then, unwrap_or}
@@ -28,7 +28,7 @@ use Rattle.ipe_machine.specs.declared.answer.Refusal.{Refusal}
 use Rattle.ipe_machine.specs.declared.event.Event.{Event}
 use Rattle.ipe_machine.specs.declared.event.Event.TheVariants as event
 use Rattle.ipe_machine.specs.Policies.{Policies, Loaded, place_of, entry_named, is_named, is_active, active_entry, policy_in, no_policy, entry_of, replaced, without}
-use Rattle.ipe_machine.specs.Answer.{Verdicts, act_answer, after, after_answer, changed, later, activate_answer, activation_of, update_of, is_true, most_text, most_words, verdict_on, is_revoked, is_unknown, when_it_reads, when_it_is_taken, last_epoch, unless_stale}
+use Rattle.ipe_machine.specs.Answer.{Verdicts, act_answer, after, after_answer, changed, later, activate_answer, activation_of, read_as, taken_of, update_by, update_of, when_taken, is_true, most_text, most_words, verdict_on, is_revoked, is_unknown, last_epoch, unless_stale}
 use Rattle.ipe_machine.specs.Machine.{Machine, after_event, after_claim, claimed, first_machine}
 use Rattle.ipe_machine.specs.Run.{after_all}
 use Rattle.ipe_machine.specs.Law.{ActiveVersionNeverFalls}
@@ -61,9 +61,9 @@ by_answer policies act (Ok did) keeps = keeps did refl
 by_answer policies act (Err why) keeps = keeps_itself policies
 
 -- an answer that is no refusal has passed the test before it
-passed : (test : Bool) (why : Refusal) (rest : Result Done Refusal) (did : Done) → cond test (Err why) rest ≡ Ok did → (test ≡ false) × (rest ≡ Ok did)
-passed true why rest did is = cc
-passed false why rest did is = (refl, is)
+passed : {A : Type 0} (test : Bool) (why : Refusal) (rest : Result A Refusal) (x : A) → cond test (Err why) rest ≡ Ok x → (test ≡ false) × (rest ≡ Ok x)
+passed true why rest x is = cc
+passed false why rest x is = (refl, is)
 
 -- the policies that a list of entries makes
 abbrev with_loaded : Policies → List Loaded → Policies
@@ -111,26 +111,34 @@ delete_keeps policies name wanted idle = by_name policies (without policies.load
         ] in
         (entry, find-remove (is_named active) policies.loaded place no_entry there.0 other ∙ found, omega arith)
 
--- an answer after a text is taken
-read_ok : (read : Result PolicyParts BadText) (go_on : PolicyParts → Result Done Refusal) (did : Done) → when_it_reads read go_on ≡ Ok did → (policy : PolicyParts) × (read ≡ Ok policy) × (go_on policy ≡ Ok did)
-read_ok (Err fault) go_on did is = cc
-read_ok (Ok policy) go_on did is = (policy, refl, (passed (nat_lt most_words (words_of_image policy.items)) (refusal.TheVariants.TooWide (words_of_image policy.items)) (go_on policy) did is).1)
+-- a policy that was read and whose image fits is the one that was read
+read_ok : (read : Result PolicyParts BadText) (policy : PolicyParts) → read_as read ≡ Ok policy → read ≡ Ok policy
+read_ok (Err fault) policy is = cc
+read_ok (Ok found) policy is =
+    let fits = passed (nat_lt most_words (words_of_image found.items)) (refusal.TheVariants.TooWide (words_of_image found.items)) (Ok found) policy is in
+    let same : found ≡ policy = cc in
+    ap (λ (p : PolicyParts). Ok p) same
 
-taken_ok : (verdicts : Verdicts) (text : List ℕ) (go_on : PolicyParts → Result Done Refusal) (did : Done) → when_it_is_taken verdicts text go_on ≡ Ok did → (policy : PolicyParts) × (reading text ≡ Ok policy) × (go_on policy ≡ Ok did)
-taken_ok verdicts text go_on did is =
-    let small = passed (nat_lt most_text (length text)) refusal.TheVariants.TooBig _ did is in
-    let kept = passed (is_revoked (verdict_on verdicts text)) refusal.TheVariants.Rejected _ did small.1 in
-    let known = passed (is_unknown (verdict_on verdicts text)) refusal.TheVariants.NoKey _ did kept.1 in
-    read_ok (reading text) go_on did known.1
+-- a text that brings a policy is read as it
+taken_ok : (verdicts : Verdicts) (text : List ℕ) (policy : PolicyParts) → taken_of verdicts text ≡ Ok policy → reading text ≡ Ok policy
+taken_ok verdicts text policy is =
+    let small = passed (nat_lt most_text (length text)) refusal.TheVariants.TooBig _ policy is in
+    let kept = passed (is_revoked (verdict_on verdicts text)) refusal.TheVariants.Rejected _ policy small.1 in
+    let known = passed (is_unknown (verdict_on verdicts text)) refusal.TheVariants.NoKey _ policy kept.1 in
+    read_ok (reading text) policy known.1
+
+-- an answer that is done after a text was taken
+when_ok : (go_on : PolicyParts → Result Done Refusal) (taken : Result PolicyParts Refusal) (did : Done) → when_taken go_on taken ≡ Ok did → (policy : PolicyParts) × (taken ≡ Ok policy) × (go_on policy ≡ Ok did)
+when_ok go_on (Err why) did is = cc
+when_ok go_on (Ok policy) did is = (policy, refl, is)
 
 -- an update that is done is of a loaded name, and brings this name and no lower version
 pub update_ok : (verdicts : Verdicts) (policies : Policies) (name text : List ℕ) (found : Option Loaded) (did : Done) → update_of verdicts policies name text found ≡ Ok did → (entry : Loaded) × (found ≡ Some entry) × ((policy_in text).name ≡ name) × (packed entry.version ≤ packed (policy_in text).version)
 update_ok verdicts policies name text None did is = cc
 update_ok verdicts policies name text (Some entry) did is =
-    let go_on : PolicyParts → Result Done Refusal = λ policy. cond (not (is_text name policy.name)) (Err refusal.TheVariants.OtherName) (cond (nat_lt (packed policy.version) (packed entry.version)) (Err (refusal.TheVariants.Stale entry.version policy.version)) (cond (is_active name policies && eqb policies.epoch last_epoch) (Err refusal.TheVariants.EpochFull) (Ok done.TheVariants.Updated))) in
-    let taken = taken_ok verdicts text go_on did is in
+    let taken = when_ok (update_by policies name entry.version) (taken_of verdicts text) did is in
     let policy : PolicyParts = taken.0 in
-    let read : policy_in text ≡ policy = ap (λ (r : Result PolicyParts BadText). unwrap_or (result_ok r) no_policy) taken.1 in
+    let read : policy_in text ≡ policy = ap (λ (r : Result PolicyParts BadText). unwrap_or (result_ok r) no_policy) (taken_ok verdicts text policy taken.1) in
     let one = passed (not (is_text name policy.name)) refusal.TheVariants.OtherName _ did taken.2 in
     let two = passed (nat_lt (packed policy.version) (packed entry.version)) (refusal.TheVariants.Stale entry.version policy.version) _ did one.1 in
     let named : policy.name ≡ name = same_text policy.name name (sym (not-false (is_text name policy.name) one.0)) in
@@ -172,11 +180,11 @@ update_keeps policies name text keeps = go (is_active name policies)
     go false = keeps
 
 -- an activation that makes a step is of a loaded name, and of no lower version than the active one
-abbrev activation_by : Bool → Loaded → Bool → Option Loaded → Result Done Refusal
-activation_by active standing full None = Err refusal.TheVariants.NoEntry
-activation_by active standing full (Some entry) = cond active (Ok done.TheVariants.AlreadyActive) (cond (nat_lt (packed entry.version) (packed standing.version)) (Err (refusal.TheVariants.Stale standing.version entry.version)) (cond full (Err refusal.TheVariants.EpochFull) (Ok done.TheVariants.Activated)))
+abbrev activation_under : Bool → Loaded → Bool → Option Loaded → Result Done Refusal
+activation_under active standing full None = Err refusal.TheVariants.NoEntry
+activation_under active standing full (Some entry) = cond active (Ok done.TheVariants.AlreadyActive) (cond (nat_lt (packed entry.version) (packed standing.version)) (Err (refusal.TheVariants.Stale standing.version entry.version)) (cond full (Err refusal.TheVariants.EpochFull) (Ok done.TheVariants.Activated)))
 
-activation_ok : (active : Bool) (standing : Loaded) (full : Bool) (found : Option Loaded) (did : Done) → activation_by active standing full found ≡ Ok did → (did ≡ done.TheVariants.AlreadyActive) ⊎ AtLeast standing found
+activation_ok : (active : Bool) (standing : Loaded) (full : Bool) (found : Option Loaded) (did : Done) → activation_under active standing full found ≡ Ok did → (did ≡ done.TheVariants.AlreadyActive) ⊎ AtLeast standing found
 activation_ok active standing full None did is = cc
 activation_ok true standing full (Some entry) did is = inl cc
 activation_ok false standing full (Some entry) did is =
@@ -185,13 +193,13 @@ activation_ok false standing full (Some entry) did is =
 activation_keeps : (policies : Policies) (name : List ℕ) (wanted : Value) (did : Done) → activate_answer policies name wanted ≡ Ok did → Keeps policies (after_answer policies (Activate name wanted) (Ok did))
 activation_keeps policies name wanted did is entry standing =
     let found = passed (not (is_true wanted)) refusal.TheVariants.BadValue _ did is in
-    let given : activation_by (is_active name policies) entry (eqb policies.epoch last_epoch) (entry_named name policies.loaded) ≡ Ok did = sym (same (entry_named name policies.loaded)) ∙ found.1 in
+    let given : activation_under (is_active name policies) entry (eqb policies.epoch last_epoch) (entry_named name policies.loaded) ≡ Ok did = sym (same (entry_named name policies.loaded)) ∙ found.1 in
     elim (activation_ok (is_active name policies) entry (eqb policies.epoch last_epoch) (entry_named name policies.loaded) did given) [
       | inl already ↦ subst (λ (d : Done). AtLeast entry (active_entry (after_answer policies (Activate name wanted) (Ok d)))) (sym already) (entry, standing, omega arith)
       | inr higher ↦ by_done policies (Activate name wanted) did (λ e is_e. let e_is : e ≡ entry = cc in (higher.0, higher.1, subst (λ (x : Loaded). packed x.version ≤ packed higher.0.version) (sym e_is) higher.2)) entry standing
     ]
   where
-    same : (found : Option Loaded) → activation_of policies name found ≡ activation_by (is_active name policies) entry (eqb policies.epoch last_epoch) found
+    same : (found : Option Loaded) → activation_of policies name found ≡ activation_under (is_active name policies) entry (eqb policies.epoch last_epoch) found
     same None = refl
     same (Some x) = ap (λ (o : Option Loaded). cond {A = Result Done Refusal} (is_active name policies) (Ok done.TheVariants.AlreadyActive) (unless_stale o x.version (cond {A = Result Done Refusal} (eqb policies.epoch last_epoch) (Err refusal.TheVariants.EpochFull) (Ok done.TheVariants.Activated)))) standing
 

@@ -60,36 +60,49 @@ is_unknown Revoked = false
 abbrev pub verdict_on : Verdicts → List ℕ → Verdict
 verdict_on verdicts text = verdicts purpose.Policy (sha256 text)
 
--- a text that parses and whose image fits goes on to the next conditions
-abbrev pub when_it_reads : Result PolicyParts BadText → (PolicyParts → Result Done Refusal) → Result Done Refusal
-when_it_reads (Err fault) go_on = Err (BadPolicy fault)
-when_it_reads (Ok policy) go_on =
-    if nat_lt most_words (words_of_image policy.items) then Err (TooWide (words_of_image policy.items))
-    else go_on policy
+-- the policy that was read, if its image fits
+abbrev pub read_as : Result PolicyParts BadText → Result PolicyParts Refusal
+read_as (Err fault) = Err (BadPolicy fault)
+read_as (Ok policy) =
+    if nat_lt most_words (words_of_image policy.items) then Err (TooWide (words_of_image policy.items)) else Ok policy
 
--- a text that is not too big, and that the signer trusts, goes on to the next conditions
-abbrev pub when_it_is_taken : Verdicts → List ℕ → (PolicyParts → Result Done Refusal) → Result Done Refusal
-when_it_is_taken verdicts text go_on =
+-- the policy that a text brings, or the first refusal that the text alone meets
+abbrev pub taken_of : Verdicts → List ℕ → Result PolicyParts Refusal
+taken_of verdicts text =
     if nat_lt most_text (length text) then Err TooBig
     else if is_revoked (verdict_on verdicts text) then Err Rejected
     else if is_unknown (verdict_on verdicts text) then Err NoKey
-    else when_it_reads (reading text) go_on
+    else read_as (reading text)
 
--- the answer to a load: its name may not be loaded yet, and there is room for it
-abbrev pub load_answer : Verdicts → Policies → List ℕ → Result Done Refusal
-load_answer verdicts policies text = when_it_is_taken verdicts text λ policy.
+-- a policy that was taken goes on to the next conditions
+abbrev pub when_taken : (PolicyParts → Result Done Refusal) → Result PolicyParts Refusal → Result Done Refusal
+when_taken go_on (Err refusal) = Err refusal
+when_taken go_on (Ok policy) = go_on policy
+
+-- the answer to a load that brings this policy: its name may not be loaded yet, and there is room for it
+abbrev pub load_by : Policies → PolicyParts → Result Done Refusal
+load_by policies policy =
     if is_some (place_of policy.name policies.loaded) then Err Exists
     else if nat_le most_loaded (length policies.loaded) then Err NoSpace
     else Ok Loaded
 
--- an update of a loaded entry, whose version may not fall
-abbrev pub update_of : Verdicts → Policies → List ℕ → List ℕ → Option state.Loaded → Result Done Refusal
-update_of verdicts policies name text None = Err NoEntry
-update_of verdicts policies name text (Some entry) = when_it_is_taken verdicts text λ policy.
+-- the answer to a load
+abbrev pub load_answer : Verdicts → Policies → List ℕ → Result Done Refusal
+load_answer verdicts policies text = when_taken (load_by policies) (taken_of verdicts text)
+
+-- the answer to an update of a name at this version that brings this policy: the version may not fall
+abbrev pub update_by : Policies → List ℕ → Version → PolicyParts → Result Done Refusal
+update_by policies name present policy =
     if not (is_text name policy.name) then Err OtherName
-    else if nat_lt (packed policy.version) (packed entry.version) then Err (Stale entry.version policy.version)
+    else if nat_lt (packed policy.version) (packed present) then Err (Stale present policy.version)
     else if is_active name policies && (policies.epoch == last_epoch) then Err EpochFull
     else Ok Updated
+
+-- an update of a loaded entry
+abbrev pub update_of : Verdicts → Policies → List ℕ → List ℕ → Option state.Loaded → Result Done Refusal
+update_of verdicts policies name text None = Err NoEntry
+update_of verdicts policies name text (Some entry) =
+    when_taken (update_by policies name entry.version) (taken_of verdicts text)
 
 -- the answer to an update of a name
 abbrev pub update_answer : Verdicts → Policies → List ℕ → List ℕ → Result Done Refusal
@@ -107,13 +120,17 @@ unless_stale None offered otherwise = otherwise
 unless_stale (Some active) offered otherwise =
     if nat_lt (packed offered) (packed active.version) then Err (Stale active.version offered) else otherwise
 
+-- the answer to an activation of a loaded name at this version
+abbrev pub activation_by : Policies → List ℕ → Version → Result Done Refusal
+activation_by policies name offered =
+    if is_active name policies then Ok AlreadyActive
+    else unless_stale (active_entry policies) offered
+    (if policies.epoch == last_epoch then Err EpochFull else Ok Activated)
+
 -- an activation of a loaded entry
 abbrev pub activation_of : Policies → List ℕ → Option state.Loaded → Result Done Refusal
 activation_of policies name None = Err NoEntry
-activation_of policies name (Some entry) =
-    if is_active name policies then Ok AlreadyActive
-    else unless_stale (active_entry policies) entry.version
-    (if policies.epoch == last_epoch then Err EpochFull else Ok Activated)
+activation_of policies name (Some entry) = activation_by policies name entry.version
 
 -- the answer to an activation of a name: only true may be written
 abbrev pub activate_answer : Policies → List ℕ → Value → Result Done Refusal
@@ -168,16 +185,20 @@ changed policies (Delete name wanted) = record policies { loaded = without polic
 changed policies (Enforce wanted) = later (record policies { enforce = is_true wanted })
 changed policies (SuccessAudit wanted) = later (record policies { success = is_true wanted })
 
--- the policies after an answer: a refusal changes nothing, nor does what is the case already
+-- an answer is of a step that was made: nothing is refused, nor was it the case already
+abbrev pub is_step : Result Done Refusal → Bool
+is_step (Err refusal) = false
+is_step (Ok Loaded) = true
+is_step (Ok Updated) = true
+is_step (Ok Activated) = true
+is_step (Ok AlreadyActive) = false
+is_step (Ok Deleted) = true
+is_step (Ok Changed) = true
+is_step (Ok Same) = false
+
+-- the policies after an answer
 abbrev pub after_answer : Policies → Act → Result Done Refusal → Policies
-after_answer policies act (Err refusal) = policies
-after_answer policies act (Ok AlreadyActive) = policies
-after_answer policies act (Ok Same) = policies
-after_answer policies act (Ok Loaded) = changed policies act
-after_answer policies act (Ok Updated) = changed policies act
-after_answer policies act (Ok Activated) = changed policies act
-after_answer policies act (Ok Deleted) = changed policies act
-after_answer policies act (Ok Changed) = changed policies act
+after_answer policies act given = if is_step given then changed policies act else policies
 
 -- the policies after a command
 abbrev pub after : Verdicts → Policies → Command → Policies

@@ -9,9 +9,12 @@ use Rattle.ipe_policy.specs.declared.evaluation.Context.{Context}
 use Rattle.ipe_policy.specs.declared.evaluation.Found.{Found}
 use Rattle.ipe_policy.specs.Evaluation.{decision}
 use Rattle.ipe_policy.specs.Request.{evaluated_op}
+use Rattle.ipe_machine.specs.declared.command.Command.{Command}
+use Rattle.ipe_machine.specs.declared.event.CoreOutcome.{CoreOutcome}
 use Rattle.ipe_machine.specs.declared.event.Event.{Event}
 use Rattle.ipe_machine.specs.declared.event.Event.TheVariants as event
 use Rattle.ipe_machine.specs.declared.event.CoreRuling.{CoreRuling}
+use Rattle.ipe_machine.specs.declared.event.Place.{Place}
 use Rattle.ipe_machine.specs.declared.event.Reply.{Reply}
 use Rattle.ipe_machine.specs.declared.event.Reply.TheVariants as reply
 use Rattle.ipe_machine.specs.Policies.{Policies, Loaded, first_policies, active_entry, policy_in}
@@ -35,6 +38,10 @@ denies found = option_map_or (λ (f : Found). is_deny f.action) found false
     is_deny Allow = false
     is_deny Deny = true
 
+-- the place of the next claim
+abbrev pub next_place : Machine → Place
+next_place machine = record { epoch = machine.policies.epoch; count = machine.count }
+
 -- the ruling on a request that isn't evaluated
 abbrev pub ruling_unevaluated : CoreRuling
 ruling_unevaluated =
@@ -44,7 +51,7 @@ ruling_unevaluated =
 abbrev pub ruling_unruled : Machine → CoreRuling
 ruling_unruled machine = record {
   code = pos 0;
-  place = Some (record { epoch = machine.policies.epoch; count = machine.count });
+  place = Some (next_place machine);
   serial = None;
   found = None;
   enforce = machine.policies.enforce;
@@ -56,7 +63,7 @@ abbrev pub ruling_by : Machine → Loaded → Op → Context → CoreRuling
 ruling_by machine entry op context =
     let found : Option Found = decision (policy_in entry.text).items op context in record {
       code = if denies found && machine.policies.enforce then negsuc 12 else pos 0;
-      place = Some (record { epoch = machine.policies.epoch; count = machine.count });
+      place = Some (next_place machine);
       serial = Some entry.serial;
       found = found;
       enforce = machine.policies.enforce;
@@ -92,13 +99,14 @@ with_policies machine policies =
       count = if policies.epoch == machine.policies.epoch then machine.count else 0;
     }
 
+-- the outcome of a command
+abbrev pub outcome_of : Verdicts → Machine → Command → CoreOutcome
+outcome_of verdicts machine command =
+    record { epoch = (after verdicts machine.policies command).epoch; reply = answer verdicts machine.policies command }
+
 -- the reply to an event
 abbrev pub reply_to : Verdicts → Machine → Event → Reply
-reply_to verdicts machine (event.Command command) =
-    reply.Command (record {
-      epoch = (after verdicts machine.policies command).epoch;
-      reply = answer verdicts machine.policies command;
-    })
+reply_to verdicts machine (event.Command command) = reply.Command (outcome_of verdicts machine command)
 reply_to verdicts machine (event.Claim pass request subject object context) =
     reply.Claimed (ruling_for machine (evaluated_op request) context)
 reply_to verdicts machine (event.Return pass) = reply.Returned

@@ -5,49 +5,26 @@ use Rattle.std.specs.Option.{option_map_or, option_and_then}
 use Rattle.std.proofs.lemmas.List.Quantifiers.{position-Some}
 use Rattle.std.proofs.lemmas.Option.{slice_get-get_or}
 use Rattle.ipe_policy.specs.declared.version.Version.{Version}
-use Rattle.ipe_policy.specs.Spelling.{words_of_image}
 use Rattle.ipe_policy.specs.Policy.{PolicyParts}
-use Rattle.ipe_parse.specs.declared.error.BadText.{BadText}
-use Rattle.ipe_parse.specs.Reading.{reading}
 use Rattle.ipe_machine.specs.declared.command.Act.{Act}
 use Rattle.ipe_machine.specs.declared.command.Command.{Command}
 use Rattle.ipe_machine.specs.declared.answer.Done.{Done}
 use Rattle.ipe_machine.specs.declared.command.Value.{Value}
 use Rattle.ipe_machine.specs.declared.answer.Done.TheVariants.{Deleted}
 use Rattle.ipe_machine.specs.declared.answer.Refusal.{Refusal}
-use Rattle.ipe_machine.specs.declared.answer.Refusal.TheVariants.{NotPermitted, TooBig, Rejected, NoKey, TooWide, BadValue, NoEntry, IsActive}
+use Rattle.ipe_machine.specs.declared.answer.Refusal.TheVariants.{NotPermitted, BadValue, NoEntry, IsActive}
 use Rattle.ipe_machine.specs.Policies as policies
 use Rattle.ipe_machine.specs.Policies.{Policies, place_of, entry_named, is_named, is_active, no_policy, without}
-use Rattle.ipe_machine.specs.Answer.{Verdicts, verdict_on, is_revoked, is_unknown, when_it_reads, when_it_is_taken, load_answer, update_answer, update_of, answer, act_answer, activation_of, most_text, most_words, after_answer, changed, delete_answer, is_true}
+use Rattle.ipe_machine.specs.Answer.{Verdicts, taken_of, when_taken, load_by, update_by, activation_by, load_answer, update_answer, update_of, answer, act_answer, activation_of, after_answer, changed, delete_answer, is_true}
 use Rattle.ipe_machine.proofs.Kept.{no_entry}
 use Rattle.ipe_registry.specs.declared.change.Plan.{Plan}
 use Rattle.ipe_registry.specs.declared.change.Plan.TheVariants as plan
 use Rattle.ipe_registry.specs.Change.{IsPlan, step_done, change_done}
-use Rattle.ipe_registry.specs.Parts.{read_as, taken_of, load_by, update_by, version_at, activation_by, IsPlanOf}
+use Rattle.ipe_registry.specs.Parts.{version_at, IsPlanOf}
 use Rattle.ipe_registry.specs.declared.change.Step.{Step}
 use Rattle.ipe_registry.specs.declared.change.Step.TheVariants.{Add, Replace, Activate, Remove, Enforce, SuccessAudit}
-use Rattle.std.specs.Prelude.{nat_lt, IfOk, not, is_none}
+use Rattle.std.specs.Prelude.{IfOk, not, is_none}
 use Rattle.std.specs.declared.alloc.AllocError.{AllocError}
-
-abbrev and_then : Result PolicyParts Refusal → (PolicyParts → Result Done Refusal) → Result Done Refusal
-and_then (Ok policy) go_on = go_on policy
-and_then (Err refusal) go_on = Err refusal
-
-read-and_then : (read : Result PolicyParts BadText) (go_on : PolicyParts → Result Done Refusal) → when_it_reads read go_on ≡ and_then (read_as read) go_on
-read-and_then (Err fault) go_on = refl
-read-and_then (Ok policy) go_on =
-    elim (nat_lt most_words (words_of_image policy.items)) as (λ (wide : Bool). cond {A = Result Done Refusal} wide (Err (TooWide (words_of_image policy.items))) (go_on policy) ≡ and_then (cond {A = Result PolicyParts Refusal} wide (Err (TooWide (words_of_image policy.items))) (Ok policy)) go_on) [ true ↦ refl | false ↦ refl ]
-
--- the two ways to go on behind a test
-step : (test : Bool) (refusal : Refusal) (r : Result PolicyParts Refusal) (s : Result Done Refusal) (go_on : PolicyParts → Result Done Refusal) → s ≡ and_then r go_on → cond test (Err refusal) s ≡ and_then (cond test (Err refusal) r) go_on
-step true refusal r s go_on same = refl
-step false refusal r s go_on same = same
-
-taken-and_then : (verdicts : Verdicts) (text : List ℕ) (go_on : PolicyParts → Result Done Refusal) → when_it_is_taken verdicts text go_on ≡ and_then (taken_of verdicts text) go_on
-taken-and_then verdicts text go_on =
-    step (nat_lt most_text (length text)) TooBig _ _ go_on
-    (step (is_revoked (verdict_on verdicts text)) Rejected _ _ go_on
-    (step (is_unknown (verdict_on verdicts text)) NoKey _ _ go_on (read-and_then (reading text) go_on)))
 
 -- the version of an entry that is there
 abbrev version_in : Option policies.Loaded → Version
@@ -59,11 +36,11 @@ permitted verdicts policies command may = ap (λ (m : Bool). cond {A = Result Do
 
 pub load_refused : (verdicts : Verdicts) (policies : Policies) (text : List ℕ) (refusal : Refusal) → taken_of verdicts text ≡ Err refusal → load_answer verdicts policies text ≡ Err refusal
 load_refused verdicts policies text refusal taken =
-    taken-and_then verdicts text (load_by policies) ∙ ap (λ r. and_then r (load_by policies)) taken
+    ap (when_taken (load_by policies)) taken
 
 pub load_taken : (verdicts : Verdicts) (policies : Policies) (text : List ℕ) (policy : PolicyParts) → taken_of verdicts text ≡ Ok policy → load_answer verdicts policies text ≡ load_by policies policy
 load_taken verdicts policies text policy taken =
-    taken-and_then verdicts text (load_by policies) ∙ ap (λ r. and_then r (load_by policies)) taken
+    ap (when_taken (load_by policies)) taken
 
 -- the entry of a name that has a place
 entry_at : (name : List ℕ) (loaded : List policies.Loaded) (place : ℕ) → place_of name loaded ≡ Some place → (entry : policies.Loaded) × (slice_get loaded place ≡ Some entry) × (entry_named name loaded ≡ Some entry)
@@ -76,13 +53,13 @@ pub update_refused : (verdicts : Verdicts) (policies : Policies) (name text : Li
 update_refused verdicts policies name text place refusal at taken =
     let found = entry_at name policies.loaded place at in
     let go_on : PolicyParts → Result Done Refusal = update_by policies name found.0.version in
-    ap (update_of verdicts policies name text) found.2 ∙ taken-and_then verdicts text go_on ∙ ap (λ r. and_then r go_on) taken
+    ap (update_of verdicts policies name text) found.2 ∙ ap (when_taken go_on) taken
 
 pub update_taken : (verdicts : Verdicts) (policies : Policies) (name text : List ℕ) (place : ℕ) (policy : PolicyParts) → place_of name policies.loaded ≡ Some place → taken_of verdicts text ≡ Ok policy → update_answer verdicts policies name text ≡ update_by policies name (version_at policies.loaded place) policy
 update_taken verdicts policies name text place policy at taken =
     let found = entry_at name policies.loaded place at in
     let go_on : PolicyParts → Result Done Refusal = update_by policies name found.0.version in
-    ap (update_of verdicts policies name text) found.2 ∙ taken-and_then verdicts text go_on ∙ ap (λ r. and_then r go_on) taken
+    ap (update_of verdicts policies name text) found.2 ∙ ap (when_taken go_on) taken
     ∙ sym (ap (λ o. update_by policies name (version_in o) policy) found.1)
 
 pub activation_found : (policies : Policies) (name : List ℕ) (place : ℕ) → place_of name policies.loaded ≡ Some place → activation_of policies name (entry_named name policies.loaded) ≡ activation_by policies name (version_at policies.loaded place)

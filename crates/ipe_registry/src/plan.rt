@@ -3,9 +3,9 @@ ghost use Rattle.sha2.specs.Sha256.{sha256};
 ghost use Rattle.ipe_policy.specs.Spelling.{words_of_image};
 ghost use Rattle.ipe_parse.specs.Reading.{reading};
 ghost use Rattle.ipe_machine.specs.Policies.{place_of, active_entry};
-ghost use Rattle.ipe_machine.specs.Answer.{load_answer, update_answer, activate_answer, delete_answer, switch_answer};
+ghost use Rattle.ipe_machine.specs.Answer.{load_answer, load_by, update_answer, update_by, activate_answer, activation_by, delete_answer, switch_answer};
 ghost use Rattle.ipe_registry.specs.Change.{IsPlan};
-ghost use Rattle.ipe_registry.specs.Parts.{IsPlanOf, IsTaken, load_by, update_by, activation_by, version_at, standing_against};
+ghost use Rattle.ipe_registry.specs.Parts.{IsPlanOf, IsTaken, version_at, standing_against};
 
 use crate::change::Step;
 use crate::registry::{MOST_LOADED, place_of};

@@ -3,7 +3,8 @@ use Rattle.ipe_machine.specs.declared.command.Act.TheVariants.{Update}
 use Rattle.ipe_machine.specs.declared.answer.Done.{Done}
 use Rattle.ipe_machine.specs.declared.answer.Refusal.{Refusal}
 use Rattle.ipe_machine.specs.Policies.{place_of}
-use Rattle.ipe_registry.specs.Parts.{taken_of, IsPlanOf}
+use Rattle.ipe_machine.specs.Answer.{taken_of}
+use Rattle.ipe_registry.specs.Parts.{IsPlanOf}
 use Rattle.ipe_registry.proofs.Plans.{update_refused, update_taken}
 use Rattle.std.specs.Prelude.{Result, IfOk}
 use Rattle.ipe_registry.proofs.registry.Registry.plan_update.Goals as goal
