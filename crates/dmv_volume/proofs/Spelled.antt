@@ -1,17 +1,18 @@
 -- What words say.
-use Rattle.std.proofs.Common.{◌≡◌, ℕ, ◌*◌, ◌<◌, ◌≤◌, ◌^◌, ◌⊎◌, false, List, [], length, None, Some, Result, Ok, Err, ap, refl, sym, ◌∙◌, arith, inl, inr}
-use Rattle.std.specs.Prelude.{IsTrue, MatchResult}
+use Rattle.std.proofs.Common.{◌≡◌, ℕ, ◌*◌, ◌<◌, ◌≤◌, ◌^◌, ◌⊎◌, List, [], length, None, Some, Result, Ok, Err, ap, refl, sym, ◌∙◌, arith, inl, inr}
+use Rattle.std.specs.Prelude.{IsTrue, IfSome, MatchResult, codes}
 use Rattle.std.specs.Result.{result_ok}
 use Rattle.dmv_tree.specs.Blocks.{is_block_size}
-use Rattle.dmv_tree.proofs.Bytes.{at_most}
-use Rattle.std.specs.Fmt.{decimal}
+use Rattle.dmv_tree.specs.Words.{block_size_of, salt_of}
+use Rattle.dmv_tree.proofs.Bytes.{size_cases}
+use Rattle.std.proofs.lemmas.Slice.Eq.{bytes_eq-Decides}
+use Rattle.std.specs.Fmt.{decimal, digits}
 use Rattle.std.proofs.lemmas.Fmt.{decimal_injective}
-use Rattle.std.proofs.lemmas.Bool.{cond-false, false≢true}
 use Rattle.hex.specs.declared.error.FromHexError.{FromHexError}
-use Rattle.hex.specs.declared.error.FromHexError.TheVariants.{OutOfMemory}
 use Rattle.hex.specs.Hex.{decode_of, decode_sized}
 use Rattle.hex.proofs.HexLemmas.{decode_of-ok, decode_of-digits, decode_sized-ok, decode_sized-twice}
-use Rattle.dmv_volume.specs.Words.{AreDigits, is_dash, salt_of}
+use Rattle.dmv_volume.specs.Words.{AreDigits, Meets}
+use Rattle.dmv_volume.specs.Words.Rule.{BlockSize, Salt}
 
 -- two numbers in one word are one
 pub same_number : (word : List ℕ) (a b : ℕ) → a < 2 ^ 64 → b < 2 ^ 64 → word ≡ decimal a → word ≡ decimal b → a ≡ b
@@ -33,19 +34,6 @@ sized_refused word e is digits =
     let both : Ok bytes.0 ≡ Err e = sym bytes.1 ∙ (sym (decode_sized-twice word 32 count) ∙ is) in
     cc both
 
--- what decodes at all, and is no longer than 512 digits
-pub salt_digits : (word bytes : List ℕ) → decode_of word ≡ Ok bytes → 2 ≤ length word → length word ≤ 512 →
-    AreDigits 2 512 word × (length bytes ≤ 256)
-salt_digits word bytes is low high =
-    let digits = decode_of-ok word bytes is in
-    ((low, high, digits.0, digits.1), omega (arith, digits.2))
-
-pub salt_refused : (word : List ℕ) (e : FromHexError) → decode_of word ≡ Err e → AreDigits 2 512 word → ⊥
-salt_refused word e is digits =
-    let bytes = decode_of-digits word digits.2 digits.3 in
-    let both : Ok bytes.0 ≡ Err e = sym bytes.1 ∙ is in
-    cc both
-
 -- a slice was decoded into
 pub written : (d : Result (List ℕ) FromHexError) (r : Result (Unit {0}) FromHexError) (out : List ℕ) →
     MatchResult d (λ bytes. (r ≡ Ok tt) × (out ≡ bytes)) (λ e. r ≡ Err e) → result_ok r ≡ Some tt → d ≡ Ok out
@@ -58,25 +46,32 @@ pub not_written : (d : Result (List ℕ) FromHexError) (r : Result (Unit {0}) Fr
 not_written (Ok bytes) r out is none = let some : result_ok r ≡ Some tt = ap result_ok is.0 in cc
 not_written (Err e) r out is none = (e, refl)
 
--- a word that is no dash
-pub not_dash : (word : List ℕ) → is_dash word ≡ false → salt_of word ≡ decode_of word
-not_dash word other = cond-false (is_dash word) (Ok []) (decode_of word) other
+-- a word that says a size of blocks is the text of that number
+pub size_some : (word : List ℕ) → IfSome (block_size_of word) (λ n. word ≡ decimal n)
+unfolding digits
+size_some word = grind (arith, bytes_eq-Decides)
 
-pub salt_none : (word : List ℕ) → is_dash word ≡ false → (AreDigits 2 512 word → ⊥) →
-    IsTrue (is_dash word) ⊎ AreDigits 2 512 word → ⊥
-salt_none word other never (inl dash) = false≢true (sym other ∙ dash)
-salt_none word other never (inr digits) = never digits
+-- the text of a size of blocks says that size
+size_said : (n : ℕ) → IsTrue (is_block_size n) → block_size_of (decimal n) ≡ Some n
+unfolding digits
+size_said n is = size_cases n (λ (x : ℕ). block_size_of (decimal x) ≡ Some x) refl refl refl refl is
 
--- the size of blocks that a word says
-pub same_size : (word : List ℕ) (size n : ℕ) → size ≤ 4096 → is_block_size size ≡ false → word ≡ decimal size →
-    IsTrue (is_block_size n) → word ≡ decimal n → ⊥
-same_size word size n low other first is second =
-    let same : n ≡ size = same_number word n size (omega (arith, at_most n is)) (omega arith) second first in
-    false≢true (sym other ∙ (ap is_block_size (sym same) ∙ is))
+-- so a word that says none is the text of no size
+pub size_none : (word : List ℕ) → block_size_of word ≡ None → Meets [] word BlockSize → ⊥
+size_none word none (n, is, spelled) = let said = size_said n is in cc
 
--- the refusal of a salt
-pub salt_bad : (word : List ℕ) (e : FromHexError) → is_dash word ≡ false → (e ≡ OutOfMemory → IsTrue false) →
-    (e ≡ OutOfMemory) ⊎ (decode_of word ≡ Err e) →
-    IsTrue (is_dash word) ⊎ AreDigits 2 512 word → ⊥
-salt_bad word e other never (inl memory) = absurd (false≢true (never memory))
-salt_bad word e other never (inr refused) = salt_none word other (salt_refused word e refused)
+-- a word that says a salt is a dash, or short enough and decoded
+dash_or_decoded : (word salt : List ℕ) → salt_of 512 word ≡ Some salt →
+    (word ≡ codes "-") ⊎ ((2 ≤ length word) × (length word ≤ 512) × (decode_of word ≡ Ok salt))
+dash_or_decoded word salt is = grind (arith, bytes_eq-Decides)
+
+-- so it meets the rule of salts
+pub salt_some : (word salt : List ℕ) → salt_of 512 word ≡ Some salt → Meets [] word Salt
+salt_some word salt is = elim (dash_or_decoded word salt is) [
+  | inl dash ↦ inl dash
+  | inr (low, high, decoded) ↦ let parts = decode_of-ok word salt decoded in inr (low, high, parts.0, parts.1)
+]
+
+-- and a word that says none doesn't
+pub salt_none : (word : List ℕ) → salt_of 512 word ≡ None → Meets [] word Salt → ⊥
+salt_none word none meets = grind (arith, decode_of-digits)

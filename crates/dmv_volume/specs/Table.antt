@@ -1,9 +1,10 @@
 -- Tables of verity targets.
-use Rattle.std.specs.Prelude.{◌≡◌, ℕ, ◌≤◌, ◌==◌, Bool, IsTrue, List, length, Ok}
+use Rattle.std.specs.Prelude.{◌≡◌, ℕ, ◌≤◌, ◌==◌, Bool, IsTrue, List, Some, length, Ok}
 use Rattle.std.specs.Fmt.{decimal}
 use Rattle.hex.specs.Hex.{decode_of}
 use Rattle.dmv_tree.specs.Blocks.{is_block_size}
-use Rattle.dmv_volume.specs.Words.{IsFirstBad, is_name, salt_of, word_at}
+use Rattle.dmv_tree.specs.Words.{salt_of}
+use Rattle.dmv_volume.specs.Words.{IsFirstBad, is_name, word_at}
 use Rattle.dmv_volume.specs.declared.table.TableError.{TableError}
 use Rattle.dmv_volume.specs.declared.table.TableError.TheVariants.{Bad, NoMemory}
 
@@ -38,7 +39,7 @@ pub record Say (words : List (List ℕ)) (table : TableParts) : Type 0 where
   pub blocks : word_at words 6 ≡ decimal table.blocks
   pub hash_start : word_at words 7 ≡ decimal table.hash_start
   pub root : decode_of (word_at words 9) ≡ Ok table.root
-  pub salt : salt_of (word_at words 10) ≡ Ok table.salt
+  pub salt : salt_of 512 (word_at words 10) ≡ Some table.salt
   pub has_option : table.has_option ≡ (length words == 13)
 
 -- why these words are no table: the first that is bad, or no memory

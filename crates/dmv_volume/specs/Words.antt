@@ -1,10 +1,9 @@
 -- The words of a verity target's table line, as the Linux kernel's admin-guide/device-mapper/verity.rst has them.
-use Rattle.std.specs.Prelude.{◌≡◌, ℕ, zero, suc, ◌-◌, ◌%◌, ◌≤◌, ◌==◌, ◌&&◌, ◌||◌, ◌⊎◌, Bool, IsTrue, nat_le, bytes_eq, cond, codes, List, [], ◌∷◌, length, map, slice_index_or, Option, Some, None, Result, Ok}
+use Rattle.std.specs.Prelude.{◌≡◌, ℕ, zero, suc, ◌-◌, ◌%◌, ◌≤◌, ◌==◌, ◌&&◌, ◌||◌, ◌⊎◌, Bool, IsTrue, nat_le, codes, List, [], ◌∷◌, length, map, slice_index_or, Option, Some, None}
 use Rattle.std.specs.Borrow.{Bor}
 use Rattle.std.specs.Fmt.{decimal}
 use Rattle.std.specs.List.{AllPass, list_all, slice_get, slice_split}
-use Rattle.hex.specs.declared.error.FromHexError.{FromHexError}
-use Rattle.hex.specs.Hex.{decode_of, is_hex_digit}
+use Rattle.hex.specs.Hex.{is_hex_digit}
 use Rattle.dmv_tree.specs.Blocks.{is_block_size}
 
 -- the blank at which a line is cut
@@ -58,14 +57,6 @@ abbrev pub AreDigits : ℕ → ℕ → List ℕ → Type 0
 AreDigits low high word =
     (low ≤ length word) × (length word ≤ high) × (length word % 2 ≡ 0) × AllPass is_hex_digit word
 
--- the word for no salt
-abbrev pub is_dash : List ℕ → Bool
-is_dash word = bytes_eq word (codes "-")
-
--- the bytes of a salt's word
-abbrev pub salt_of : List ℕ → Result (List ℕ) FromHexError
-salt_of word = cond (is_dash word) (Ok []) (decode_of word)
-
 -- a word meets a rule
 abbrev pub Meets : List (List ℕ) → List ℕ → Rule → Type 0
 Meets words word (Text text) = word ≡ text
@@ -74,7 +65,7 @@ Meets words word BlockSize = (n : ℕ) × IsTrue (is_block_size n) × (word ≡ 
 Meets words word (SameAs number) = word ≡ word_at words number
 Meets words word (Number low high) = (n : ℕ) × (low ≤ n) × (n ≤ high) × (word ≡ decimal n)
 Meets words word (Digits low high) = AreDigits low high word
-Meets words word Salt = IsTrue (is_dash word) ⊎ AreDigits 2 512 word
+Meets words word Salt = (word ≡ codes "-") ⊎ AreDigits 2 512 word
 
 -- a word meets its rule, where it has one
 abbrev pub MeetsIts : List (List ℕ) → List ℕ → Option Rule → Type 0

@@ -1,16 +1,20 @@
 ghost use Rattle.dmv_volume.specs.Table.{HasLimits, IsReason, Say};
-ghost use Rattle.dmv_volume.specs.Words.{AreWhole, OneFirstBad, WholeOrBad, WordsFit, seen, word_at, words_of, salt_of};
+ghost use Rattle.dmv_volume.specs.Words.{AreWhole, OneFirstBad, WholeOrBad, WordsFit, seen, word_at, words_of};
 ghost use Rattle.dmv_tree.specs.Blocks.{is_block_size};
+ghost use Rattle.dmv_tree.specs.Words.{salt_of};
 ghost use Rattle.hash_tree.specs.Shape.{IsHeight, blocks_above};
 ghost use Rattle.hash_tree.specs.Tree.{fan_out};
 ghost use Rattle.hex.specs.Hex.{decode_of};
 ghost use Rattle.std.specs.Fmt.{decimal};
-ghost use Rattle.std.specs.Prelude.{◌≡◌, ◌<◌, ◌≤◌, ◌==◌, ℕ, IsTrue, IfErr, IfOk, length};
+ghost use Rattle.std.specs.Prelude.{◌≡◌, ◌<◌, ◌≤◌, ◌==◌, ℕ, IsTrue, IfErr, IfOk, Some, length};
 
-use crate::words::{block_size_of, is_name, number_of, root_of, salt_of, word_at, words_of};
-use dmv_tree::layout;
+use crate::words::{is_name, number_of, root_of, word_at, words_of};
+use dmv_tree::{Salt, block_size_of, layout};
 use std::alloc::{AllocError, Global};
 use std::marker::Model;
+
+/// The most digits of a salt.
+const MOST_SALT_DIGITS: usize = 512;
 
 /// Why a line was not read as a table.
 #[derive(Clone, Copy, Debug, PartialEq, Eq)]
@@ -85,7 +89,7 @@ impl Table {
     {
         let names = Names::read(words)?;
         let sizes = Sizes::read(words)?;
-        let digests = Digests::read(alloc, words)?;
+        let digests = Digests::read(words)?;
         let has_option = option_of(words)?;
         Ok(Table {
             device: names.device.to_vec(alloc).map_err(no_memory)?,
@@ -94,7 +98,7 @@ impl Table {
             blocks: sizes.blocks,
             hash_start: sizes.hash_start,
             root: digests.root,
-            salt: digests.salt,
+            salt: digests.salt.as_slice().to_vec(alloc).map_err(no_memory)?,
             has_option,
         })
     }
@@ -263,24 +267,25 @@ impl Sizes {
 #[derive(Drop)]
 struct Digests {
     root: [u8; 32],
-    salt: Vec<u8>,
+    salt: Salt,
 }
 
 impl Digests {
-    fn read(alloc: Global, words: &[&[u8]]) -> Result<Digests, TableError>
+    fn read(words: &[&[u8]]) -> Result<Digests, TableError>
         requires { WordsFit (seen words.now) 7 }
         ensures fit { IfOk result (λ digests. WordsFit (seen words.now) 10) }
         ensures root { IfOk result (λ digests. decode_of (word_at (seen words.now) 9) ≡ Ok digests.root) }
-        ensures salt { IfOk result (λ digests. salt_of (word_at (seen words.now) 10) ≡ Ok digests.salt.items) }
-        ensures small { IfOk result (λ digests. length digests.salt.items ≤ 256) }
+        ensures salt { IfOk result (λ digests. salt_of 512 (word_at (seen words.now) 10) ≡ Some digests.salt) }
+        ensures small { IfOk result (λ digests. length digests.salt ≤ 256) }
         ensures bad { IfErr result (IsReason (seen words.now)) }
     {
         if word_at(words, 8) != b"sha256".as_slice() {
             return Err(TableError::Bad { word: 8 });
         }
         let root = root_of(word_at(words, 9)).ok_or(TableError::Bad { word: 9 })?;
-        let salt = salt_of(alloc, word_at(words, 10)).map_err(no_memory)?;
-        let salt = salt.ok_or(TableError::Bad { word: 10 })?;
+        let salt = Salt::read(word_at(words, 10), MOST_SALT_DIGITS).ok_or(TableError::Bad {
+            word: 10,
+        })?;
         Ok(Digests { root, salt })
     }
 }

@@ -1,13 +1,10 @@
-ghost use Rattle.dmv_tree.specs.Blocks.{is_block_size};
-ghost use Rattle.dmv_volume.specs.Words.{AreDigits, Meets, is_dash, is_name, is_visible, salt_of, seen, word_at, words_of};
-ghost use Rattle.dmv_volume.specs.Words.Rule.{BlockSize, Number, Salt};
+ghost use Rattle.dmv_volume.specs.Words.{AreDigits, Meets, is_name, is_visible, seen, word_at, words_of};
+ghost use Rattle.dmv_volume.specs.Words.Rule.{Number};
 ghost use Rattle.hex.specs.Hex.{decode_of};
 ghost use Rattle.std.specs.Fmt.{decimal as decimal_text};
 ghost use Rattle.std.specs.List.{list_all};
-ghost use Rattle.std.specs.Prelude.{◌≡◌, ◌-◌, ◌≤◌, ◌&&◌, IsTrue, Ok, length, IfNone, IfOk, IfSome, []};
+ghost use Rattle.std.specs.Prelude.{◌≡◌, ◌-◌, ◌≤◌, Ok, IfNone, IfOk, IfSome, []};
 
-use dmv_tree::is_block_size;
-use hex::FromHexError;
 use ipe_words::decimal;
 use std::alloc::{AllocError, Global};
 
@@ -47,19 +44,6 @@ pub(crate) fn is_name(word: &[u8]) -> bool
     1 <= word.len() && word.len() <= 255 && all_visible(word)
 }
 
-// The size that a word says, where blocks may have it.
-pub(crate) fn block_size_of(word: &[u8]) -> Option<u32>
-    ensures some { IfSome result (λ size. IsTrue (is_block_size size) × (word.now ≡ decimal_text size)) }
-    ensures none { IfNone result (Meets [] word.now BlockSize → ⊥) }
-{
-    let size = decimal(word, 4096)?;
-    if is_block_size(size) {
-        Some(size as u32)
-    } else {
-        None
-    }
-}
-
 // The number that a word says, where it is from `low` to `high`.
 pub(crate) fn number_of(word: &[u8], low: u64, high: u64) -> Option<u64>
     ensures some { IfSome result (λ n. (low ≤ n) × (n ≤ high) × (word.now ≡ decimal_text n)) }
@@ -77,35 +61,4 @@ pub(crate) fn root_of(word: &[u8]) -> Option<[u8; 32]>
     let mut root = [0; 32];
     hex::decode_to_slice(word, &mut root).ok()?;
     Some(root)
-}
-
-// The salt that a word says.
-pub(crate) fn salt_of(alloc: Global, word: &[u8]) -> Result<Option<Vec<u8>>, AllocError>
-    ensures some { IfOk result (λ found. IfSome found (λ salt. Meets [] word.now Salt
-        × (salt_of word.now ≡ Ok salt.items) × (length salt.items ≤ 256))) }
-    ensures none { IfOk result (λ found. IfNone found (Meets [] word.now Salt → ⊥)) }
-{
-    if is_dash(word) {
-        return Ok(Some(Vec::new(alloc)));
-    }
-    if word.len() < 2 || word.len() > 512 {
-        return Ok(None);
-    }
-    match hex::decode(alloc, word) {
-        Ok(salt) => Ok(Some(salt)),
-        Err(error) if wants_memory(&error) => Err(AllocError),
-        Err(_) => Ok(None),
-    }
-}
-
-fn wants_memory(error: &FromHexError) -> bool
-    ensures { error.now ≡ FromHexError.OutOfMemory → IsTrue result }
-{
-    matches!(error, FromHexError::OutOfMemory)
-}
-
-fn is_dash(word: &[u8]) -> bool
-    ensures { result ≡ is_dash word.now }
-{
-    word == b"-".as_slice()
 }
