@@ -5,6 +5,7 @@ use Rattle.std.specs.Fmt.{decimal}
 use Rattle.std.proofs.lemmas.Bool.{false≢true, eqb-true}
 use Rattle.std.proofs.lemmas.Bool.Decides.{nat_tests}
 use Rattle.std.proofs.lemmas.Str.Parse.{IsNumeralModel, numerals_by_fold}
+use Rattle.std.proofs.lemmas.Option.{same_Some, none-some}
 use Rattle.std.proofs.lemmas.Fmt.{digits_decimal, digits_value-decimal, decimal-digits_value, decimal_digit, first_decimal, decimal_nonempty, length-decimal-le}
 use Rattle.ipe_policy.specs.Words.{is_digit}
 use Rattle.ipe_policy.specs.Version.{digits_onto}
@@ -40,6 +41,13 @@ parts true true true false false h = (refl, refl, λ e. absurd (false≢true e))
 chosen : (number within : Bool) (value n : ℕ) → number ≡ true → within ≡ true → value ≡ n → cond (number && within) (Some value) None ≡ Some n
 chosen number within value n a b e = rw (a, b) (ap Some e)
 
+-- where a value is given, both tests held, and it is that value
+taken : (number within : Bool) (value n : ℕ) → cond (number && within) (Some value) None ≡ Some n
+    → (number ≡ true) × (within ≡ true) × (value ≡ n)
+taken true true value n e = (refl, refl, same_Some value n e)
+taken true false value n e = absurd (none-some n e)
+taken false within value n e = absurd (none-some n e)
+
 refused : (number within : Bool) (value : ℕ) → (number ≡ true → within ≡ true → ⊥) → cond (number && within) (Some value) None ≡ None
 refused true true value never = absurd (never refl refl)
 refused true false value never = refl
@@ -73,3 +81,17 @@ number_of-none word most small none =
     let below : digits_onto 0 word ≤ most = grind (arith, nat_tests) in
     let first : get_or word 0 0 ≡ 48 → length word ≡ 1 = λ lead. eqb-true (length word) 1 (told.2 (eq-eqb (get_or word 0 0) 48 lead)) in
     none (digits_onto 0 word) below (sym (decimal-digits_value own word told.1 some first (omega arith))))
+
+-- a word that is a number is the number's text
+pub number_of-is : (word : List ℕ) (most n : ℕ) → most < 2 ^ 64 → number_of most word ≡ Some n → word ≡ decimal n
+unfolding number_of
+number_of-is word most n small e =
+    let number : (is_number word ≡ true) × (nat_le (digits_onto 0 word) most ≡ true) × (digits_onto 0 word ≡ n) =
+    taken (is_number word) (nat_le (digits_onto 0 word) most) (digits_onto 0 word) n e in
+    let told = parts (nat_le 1 (length word)) (nat_le (length word) 20) (list_all is_digit word) (length word == 1)
+    (get_or word 0 0 == 48) number.0 in
+    let some : 0 < length word = grind (arith, nat_tests, told.0) in
+    let below : digits_onto 0 word ≤ most = grind (arith, nat_tests, number.1) in
+    let first : get_or word 0 0 ≡ 48 → length word ≡ 1 =
+    λ lead. eqb-true (length word) 1 (told.2 (eq-eqb (get_or word 0 0) 48 lead)) in
+    sym (decimal-digits_value own word told.1 some first (omega arith)) ∙ ap decimal number.2

@@ -4,7 +4,7 @@ use Rattle.ipe_script.specs.declared.script.PhaseLine.{PhaseLine}
 use Rattle.ipe_script.specs.Grammar.{Stage, onto_last, may_hook}
 use Rattle.ipe_script.specs.Reader.{phases_at}
 
-onto_last-append : (phases : List (List PhaseLine)) (lines : List PhaseLine) (line : PhaseLine) → onto_last (phases ++ lines ∷ []) line ≡ phases ++ (lines ++ line ∷ []) ∷ []
+pub onto_last-append : (phases : List (List PhaseLine)) (lines : List PhaseLine) (line : PhaseLine) → onto_last (phases ++ lines ∷ []) line ≡ phases ++ (lines ++ line ∷ []) ∷ []
 onto_last-append [] lines line = refl
 onto_last-append (first ∷ []) lines line = refl
 onto_last-append (first ∷ second ∷ phases) lines line = ap (λ rest. first ∷ rest) (onto_last-append (second ∷ phases) lines line)

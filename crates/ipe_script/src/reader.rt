@@ -1,7 +1,8 @@
-ghost use Rattle.std.specs.Prelude.{◌≡◌, ◌≤◌, ◌++◌, ◌∷◌, [], length, position, IfNone, IfSome, OnOk};
+ghost use Rattle.std.specs.Prelude.{◌≡◌, ◌≤◌, ◌++◌, ◌∷◌, [], length, position, IfNone, IfOk, IfSome, OnOk};
 ghost use Rattle.std.specs.List.{slice_split};
 ghost use Rattle.ipe_script.specs.Grammar.{requests_of, is_line_feed};
 ghost use Rattle.ipe_script.specs.Answers.{AsksOrFails, CutsLine};
+ghost use Rattle.ipe_script.specs.Spelling.{Spells};
 
 mod phase_lines;
 
@@ -362,10 +363,11 @@ fn cut_line(bytes: &[u8]) -> Option<(&[u8], &[u8])>
     Some((&bytes[..end], &bytes[end + 1..]))
 }
 
-/// What a request file declares and asks, or its first bad line.
+/// What a request file declares and asks, or its first bad line. The file is the one spelling of what it asks.
 pub fn parse_requests(alloc: Global, bytes: &[u8]) -> Result<Requests, ScriptError>
     requires { length bytes.now ≤ 16777216 }
-    ensures { AsksOrFails result (requests_of bytes.now) }
+    ensures asked { AsksOrFails result (requests_of bytes.now) }
+    ensures spelled { IfOk result (Spells bytes.now) }
 {
     let mut reader = Reader::new(alloc);
     let mut number: u32 = 0;
