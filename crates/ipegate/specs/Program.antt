@@ -7,6 +7,7 @@ use Rattle.ipe_words.specs.declared.status.Status.TheVariants as status
 use Rattle.ipe_script.specs.declared.script.PhaseLine.{PhaseLine}
 use Rattle.ipe_script.specs.Script.{Script}
 use Rattle.ipe_script.specs.Grammar.{requests_of}
+use Rattle.ipe_script.specs.Spelling.{Spells}
 use Rattle.ipe_history.specs.Order.{IsWeave, IsInPlace}
 use Rattle.ipe_history.specs.Spelled.{numbers_of, spelled}
 use Rattle.ipe_history.specs.Transcript.{transcript}
@@ -16,13 +17,14 @@ use Rattle.ipe_transcript.specs.Lines.{line_text}
 abbrev pub most_input : ℕ
 most_input = 16777216
 
--- the input asks for exactly this, and the text is the transcript of an order of its lines, each one's in that one's
--- order, and each in its place; the order is the one that the written lines spell
+-- the input asks for exactly this and is its one spelling, and the text is the transcript of an order of its lines,
+-- each one's in that one's order, and each in its place; the order is the one that the written lines spell
 pub record IsReplay (input text : List ℕ) : Type 0 where
   pub script : Script
   pub order : List (List PhaseLine)
   pub fits : length input ≤ most_input
   pub asks : requests_of input ≡ Ok script
+  pub one_spelling : Spells input script
   pub weave : IsWeave script order
   pub in_place : IsInPlace script order
   pub bytes : text ≡ transcript script order

@@ -1,6 +1,7 @@
 -- What the program's words ask of it.
-use Rattle.std.specs.Prelude.{ℕ, Bool, true, false, ◌&&◌, nat_le, codes, if◌then◌else◌, List, [], ◌∷◌, length, Option}
+use Rattle.std.specs.Prelude.{ℕ, Bool, true, false, ◌==◌, codes, if◌then◌else◌, List, [], ◌∷◌, Option}
 use Rattle.std.specs.Prelude.{Some, None, IfSome, ◌⊎◌}
+use Rattle.std.specs.Option.{option_and_then}
 use Rattle.blk_device.specs.Contents.{Contents}
 use Rattle.dmv_tree.specs.Words.{block_size_of, salt_of}
 use Rattle.ipe_policy.specs.Words.{is_text, is_visible, is_word}
@@ -16,13 +17,9 @@ pub data Asked : Type 0 where
   root : (block_size : ℕ) (salt device : List ℕ) → Asked
   measure : (block_size : ℕ) (salt : List ℕ) → Asked
 
--- the size of a block of a file, in bytes
+-- the size of a block of a file, in bytes: one of a device's, but not the smallest
 abbrev pub file_block_size_of : List ℕ → Option ℕ
-file_block_size_of word =
-    if is_text (codes "1024") word then Some 1024
-    else if is_text (codes "2048") word then Some 2048
-    else if is_text (codes "4096") word then Some 4096
-    else None
+file_block_size_of word = option_and_then (λ size. if size == 512 then None else Some size) (block_size_of word)
 
 -- a device: 1 to 255 visible bytes
 abbrev pub is_device : List ℕ → Bool

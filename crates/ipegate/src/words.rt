@@ -105,16 +105,8 @@ fn file_block_size_of(word: &[u8]) -> Option<u32>
     ensures size { result ≡ file_block_size_of word.now }
     ensures rule { IfSome result (λ size. IsTrue (is_file_block_size size)) }
 {
-    if word == b"1024".as_slice() {
-        return Some(1024);
-    }
-    if word == b"2048".as_slice() {
-        return Some(2048);
-    }
-    if word == b"4096".as_slice() {
-        return Some(4096);
-    }
-    None
+    let size = block_size_of(word)?;
+    if size == 512 { None } else { Some(size) }
 }
 
 fn is_device(word: &[u8]) -> bool

@@ -22,16 +22,17 @@ spells_order input text script fits asks bytes =
     (printed_numbered (2 ^ 32) script.phases below)
 
 pub replay-requires : goal.replay-requires
-replay-requires c = omega (arith, c.requires, requests_few c.args.input.now c.in-Ok.requests c.in-Ok.ensures)
+replay-requires c = omega (arith, c.requires, requests_few c.args.input.now c.in-Ok.requests c.in-Ok.ensures.asked)
 
 pub returns-in_ok-replay-in-Ok : goal.returns-in_ok-replay-in-Ok
 returns-in_ok-replay-in-Ok c = record {
   script = c.in-Ok.requests;
   order = printed_order c.in-Ok.requests;
   fits = c.requires;
-  asks = c.in-Ok.ensures;
-  weave = printed_weaves c.in-Ok.requests (requests_in_order c.args.input.now c.in-Ok.requests c.in-Ok.ensures);
-  in_place = printed_in_place c.in-Ok.requests (requests_in_order c.args.input.now c.in-Ok.requests c.in-Ok.ensures);
+  asks = c.in-Ok.ensures.asked;
+  one_spelling = c.in-Ok.ensures.spelled;
+  weave = printed_weaves c.in-Ok.requests (requests_in_order c.args.input.now c.in-Ok.requests c.in-Ok.ensures.asked);
+  in_place = printed_in_place c.in-Ok.requests (requests_in_order c.args.input.now c.in-Ok.requests c.in-Ok.ensures.asked);
   bytes = c.in_ok-replay-in-Ok.ensures;
-  spells = spells_order c.args.input.now _ c.in-Ok.requests c.requires c.in-Ok.ensures c.in_ok-replay-in-Ok.ensures;
+  spells = spells_order c.args.input.now _ c.in-Ok.requests c.requires c.in-Ok.ensures.asked c.in_ok-replay-in-Ok.ensures;
 }
