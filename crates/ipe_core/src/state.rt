@@ -27,8 +27,7 @@ const MOST_CLAIMS: u64 = 1 << 40;
 
 impl State {
     ghost use Rattle.std.specs.Prelude.{◌≡◌, ◌≤◌, IfOk};
-    ghost use Rattle.ipe_machine.specs.Machine.{first_machine, is_allowed};
-    ghost use Rattle.ipe_core.specs.Parts.{next_place};
+    ghost use Rattle.ipe_machine.specs.Machine.{first_machine, is_allowed, next_place};
 
     /// The first state, with 1 to 30 passes that hold nothing.
     pub fn new(alloc: Global, passes: u32) -> Result<State, AllocError>

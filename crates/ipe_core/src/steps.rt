@@ -2,8 +2,8 @@ ghost use Rattle.std.specs.Prelude.{◌≡◌, ◌<◌, ◌^◌, IsTrue, IfOk, O
 ghost use Rattle.ipe_policy.specs.Request.{evaluated_op};
 ghost use Rattle.ipe_machine.specs.Policies.{active_entry};
 ghost use Rattle.ipe_machine.specs.Answer.{after};
-ghost use Rattle.ipe_machine.specs.Machine.{is_allowed, reply_to, after_event, with_policies, ruling_for, ruling_at, ruling_by, after_claim};
-ghost use Rattle.ipe_core.specs.Parts.{outcome_of, wants_memory};
+ghost use Rattle.ipe_machine.specs.Machine.{is_allowed, outcome_of, reply_to, after_event, with_policies, ruling_for, ruling_at, ruling_by, after_claim};
+ghost use Rattle.ipe_core.specs.Memory.{wants_memory};
 
 use crate::State;
 use ipe_machine::{Command, CoreOutcome, CoreRuling, Event, Reply};

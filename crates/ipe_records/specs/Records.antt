@@ -1,5 +1,5 @@
 -- Which records a command and an access make.
-use Rattle.std.specs.Prelude.{ℕ, if◌then◌else◌, List, [], ◌∷◌, Option, Some, None, Result, Ok, Err}
+use Rattle.std.specs.Prelude.{ℕ, if◌then◌else◌, List, [], ◌∷◌, Option, Some, None, Result}
 use Rattle.std.specs.Option.{option_map, option_map_or, option_and_then}
 use Rattle.sha2.specs.Sha256.{sha256}
 use Rattle.ipe_policy.specs.declared.op.Op.{Op}
@@ -20,11 +20,10 @@ use Rattle.ipe_machine.specs.declared.command.Act.{Act}
 use Rattle.ipe_machine.specs.declared.command.Act.TheVariants.{Load, Update, Activate, Delete, Enforce, SuccessAudit}
 use Rattle.ipe_machine.specs.declared.command.Command.{Command}
 use Rattle.ipe_machine.specs.declared.answer.Done.{Done}
-use Rattle.ipe_machine.specs.declared.answer.Done.TheVariants.{Loaded, Updated, Activated, AlreadyActive, Deleted, Changed, Same}
 use Rattle.ipe_machine.specs.declared.answer.Refusal.{Refusal}
 use Rattle.ipe_machine.specs.Policies as state
 use Rattle.ipe_machine.specs.Policies.{Policies, active_entry, entry_named, entry_of, is_active, policy_in}
-use Rattle.ipe_machine.specs.Answer.{Verdicts, answer, is_true}
+use Rattle.ipe_machine.specs.Answer.{Verdicts, answer, is_step, is_true}
 use Rattle.ipe_machine.specs.Machine.{Machine, ruling_by}
 
 -- what records tell of a loaded policy
@@ -48,16 +47,9 @@ act_records policies (Delete name wanted) = []
 act_records policies (Enforce wanted) = enforce_text (is_true wanted) ∷ []
 act_records policies (SuccessAudit wanted) = []
 
--- the records of an answer: a refusal makes none, nor does what is the case already
+-- the records of an answer: only a step makes any
 abbrev pub answer_records : Policies → Act → Result Done Refusal → List (List ℕ)
-answer_records policies act (Err refusal) = []
-answer_records policies act (Ok AlreadyActive) = []
-answer_records policies act (Ok Same) = []
-answer_records policies act (Ok Loaded) = act_records policies act
-answer_records policies act (Ok Updated) = act_records policies act
-answer_records policies act (Ok Activated) = act_records policies act
-answer_records policies act (Ok Deleted) = act_records policies act
-answer_records policies act (Ok Changed) = act_records policies act
+answer_records policies act given = if is_step given then act_records policies act else []
 
 -- the records of a command
 abbrev pub records_of : Verdicts → Policies → Command → List (List ℕ)

@@ -1,5 +1,5 @@
 -- A claim on a policy is held, and the record of an access is told by the image of the policy.
-use Rattle.std.proofs.Common.{◌≡◌, Bool, true, cond, IsTrue, List, ℕ, [], ◌∷◌, Option, Some, None, slice_get, is_some}
+use Rattle.std.proofs.Common.{◌≡◌, Bool, true, cond, List, ℕ, Option, Some, None}
 use Rattle.std.proofs.Common.{refl, sym, ap, ◌∙◌}
 use Rattle.std.specs.Option.{option_and_then, option_map}
 use Rattle.ipe_policy.specs.declared.op.Op.{Op}
@@ -15,13 +15,12 @@ use Rattle.ipe_image.specs.declared.hit.Hit.{Hit}
 use Rattle.ipe_image.specs.Decision.{deciding}
 use Rattle.ipe_image.specs.Law.{DecideAlike}
 use Rattle.ipe_audit.specs.Records.{decided_text}
-use Rattle.ipe_machine.specs.Policies.{Loaded, active_entry, policy_in}
-use Rattle.ipe_machine.specs.Machine.{Machine, after_claim, claimed, is_free, is_holding, ruling_at, ruling_by}
+use Rattle.ipe_machine.specs.Policies.{Loaded, Policies, active_entry, policy_in}
+use Rattle.ipe_machine.specs.Machine.{Machine, ruling_at, ruling_by}
 use Rattle.ipe_machine.specs.Machine.{ruling_for}
 use Rattle.ipe_records.specs.Records.{access_by, access_for, access_of}
 use Rattle.ipe_replay.specs.Ruled.{IsRuledBy, parts_in}
 
--- a pass that was free holds what it claims
 -- the record of an access that a statement decided
 decided : (m : Machine) (request : Request) (subject : Subject) (object : Object) (op : Op)
     → (statement : Option Statement)
@@ -52,3 +51,34 @@ access_told alike m request subject object context op entry hit line asked activ
     ∙ ap (option_and_then by_statement) found
     ∙ decided m request subject object op (deciding (parts_in entry) op hit.found)
     ∙ told
+
+-- the machine with the policies of another
+abbrev with : Machine → Policies → Machine
+with m policies = record { policies = policies; count = m.count; held = m.held }
+
+-- whether a record is due is told by the policies alone
+pub due-same : (m n : Machine) (op : Option Op) (context : Context) → m.policies ≡ n.policies
+    → (ruling_for m op context).record_due ≡ (ruling_for n op context).record_due
+due-same m n None context same = refl
+due-same m n (Some op) context same =
+    ap (λ (p : Policies). (ruling_at (with m p) (active_entry p) op context).record_due) same
+    ∙ at (active_entry n.policies)
+  where
+    at : (entry : Option Loaded)
+        → (ruling_at (with m n.policies) entry op context).record_due ≡ (ruling_at n entry op context).record_due
+    at None = refl
+    at (Some entry) = refl
+
+-- and so is what it says
+pub access-same : (m n : Machine) (request : Request) (subject : Subject) (object : Object) (context : Context)
+    → m.policies ≡ n.policies → access_of m request subject object context ≡ access_of n request subject object context
+access-same m n request subject object context same =
+    ap (λ (p : Policies). access_of (with m p) request subject object context) same
+    ∙ by (evaluated_op request) (active_entry n.policies)
+  where
+    by : (op : Option Op) (entry : Option Loaded)
+        → access_for (with m n.policies) request subject object context op entry
+        ≡ access_for n request subject object context op entry
+    by None entry = refl
+    by (Some op) None = refl
+    by (Some op) (Some entry) = refl

@@ -1,14 +1,12 @@
 -- The records of a command, as they are told from the policies after it.
-use Rattle.std.specs.Prelude.{ℕ, ◌-◌, Bool, if◌then◌else◌, List, [], ◌∷◌, length, Option, Some, None, Result, Ok, Err}
-use Rattle.std.specs.Prelude.{slice_get}
+use Rattle.std.specs.Prelude.{ℕ, ◌-◌, Bool, if◌then◌else◌, List, [], ◌∷◌, length, Option, Some, None, Result, slice_get}
 use Rattle.ipe_audit.specs.declared.records.Brief.{Brief}
 use Rattle.ipe_audit.specs.Records.{activation_text, enforce_text, load_text}
 use Rattle.ipe_machine.specs.declared.command.Act.{Act}
 use Rattle.ipe_machine.specs.declared.command.Act.TheVariants.{Load, Update, Activate, Delete, Enforce, SuccessAudit}
 use Rattle.ipe_machine.specs.declared.answer.Done.{Done}
-use Rattle.ipe_machine.specs.declared.answer.Done.TheVariants.{Loaded, Updated, Activated, AlreadyActive, Deleted}
-use Rattle.ipe_machine.specs.declared.answer.Done.TheVariants.{Changed, Same}
 use Rattle.ipe_machine.specs.declared.answer.Refusal.{Refusal}
+use Rattle.ipe_machine.specs.Answer.{is_step}
 use Rattle.ipe_machine.specs.Policies as state
 use Rattle.ipe_machine.specs.Policies.{Policies, entry_named, is_active}
 use Rattle.ipe_records.specs.Records.{brief_of}
@@ -38,13 +36,6 @@ act_told old policies (Delete name wanted) = []
 act_told old policies (Enforce wanted) = enforce_text policies.enforce ∷ []
 act_told old policies (SuccessAudit wanted) = []
 
--- the records of an answer
+-- the records of an answer: only a step makes any
 abbrev pub answer_told : Option Brief → Policies → Act → Result Done Refusal → List (List ℕ)
-answer_told old policies act (Err refusal) = []
-answer_told old policies act (Ok AlreadyActive) = []
-answer_told old policies act (Ok Same) = []
-answer_told old policies act (Ok Loaded) = act_told old policies act
-answer_told old policies act (Ok Updated) = act_told old policies act
-answer_told old policies act (Ok Activated) = act_told old policies act
-answer_told old policies act (Ok Deleted) = act_told old policies act
-answer_told old policies act (Ok Changed) = act_told old policies act
+answer_told old policies act given = if is_step given then act_told old policies act else []

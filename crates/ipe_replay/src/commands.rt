@@ -4,10 +4,9 @@ ghost use Rattle.ipe_script.specs.declared.script.Task.TheVariants.{Read, Write}
 ghost use Rattle.ipe_script.specs.Script.{content_of};
 ghost use Rattle.ipe_signer.specs.Marks.{last_verdict};
 ghost use Rattle.ipe_machine.specs.declared.event.Event.TheVariants as event;
-ghost use Rattle.ipe_machine.specs.Machine.{after_event};
+ghost use Rattle.ipe_machine.specs.Machine.{after_event, outcome_of};
 ghost use Rattle.ipe_machine.specs.Refusals.{errno_of};
 ghost use Rattle.ipe_nodes.specs.Nodes.{node_read};
-ghost use Rattle.ipe_core.specs.Parts.{outcome_of};
 ghost use Rattle.ipe_records.specs.Records.{records_of};
 ghost use Rattle.ipe_history.specs.Order.{after_task, asked_by, marks_of, task_reply, told};
 ghost use Rattle.ipe_history.specs.Transcript.{code_of, entry_of};

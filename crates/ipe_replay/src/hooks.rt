@@ -4,7 +4,7 @@ ghost use Rattle.ipe_image.specs.Reading.{image_in};
 ghost use Rattle.ipe_policy.specs.Request.{evaluated_op};
 ghost use Rattle.ipe_script.specs.declared.script.Task.TheVariants.{Hook};
 ghost use Rattle.ipe_signer.specs.Marks.{last_verdict};
-ghost use Rattle.ipe_machine.specs.Machine.{after_claim, ruling_by, ruling_for};
+ghost use Rattle.ipe_machine.specs.Machine.{after_claim, ruling_for};
 ghost use Rattle.ipe_records.specs.Records.{access_of};
 ghost use Rattle.ipe_history.specs.Order.{after_hook, after_task, context_of, marks_of, object_of, task_reply};
 ghost use Rattle.ipe_history.specs.Transcript.{entry_of};
@@ -15,7 +15,7 @@ use crate::running::Running;
 use ipe_audit::{LineBytes, access_line};
 use ipe_core::{CoreRuling, Entry as Loaded, Event, Reply, State, TrustList, step};
 use ipe_image::{CompileError, Hit, Image, SliceReader, compile, decide_words};
-use ipe_policy::{Action, Context, Object, Op, Request, Subject, decide};
+use ipe_policy::{Context, Object, Op, Request, Subject};
 use ipe_script::Requests;
 use ipe_transcript::Entry;
 use std::alloc::{AllocError, Global};
@@ -80,17 +80,10 @@ fn hit_of(
     Ok(hit)
 }
 
-// A denial is recorded, also where it isn't enforced; what is allowed where success_audit is on.
-fn is_due(state: &State, entry: &Loaded, op: Op, context: &Context) -> bool
-    ensures { result ≡ (ruling_by state.now entry.now op context.now).record_due }
-{
-    let found = decide(&entry.policy, op, context);
-    found.action == Action::Deny || state.registry().success()
-}
-
 // The record of an access, where one is due.
 fn access_of(
     alloc: Global,
+    due: bool,
     state: &State,
     kept: &mut Option<Image>,
     request: Request,
@@ -98,18 +91,19 @@ fn access_of(
     object: &Object,
     context: &Context,
 ) -> Result<Option<LineBytes>, AllocError>
-    requires { IsKept state.now.policies kept.old }
+    requires kept { IsKept state.now.policies kept.old }
+    requires due { due ≡ (ruling_for state.now (evaluated_op request) context.now).record_due }
     ensures access { IfOk result
         (λ access. access ≡ access_of state.now request subject.now object.now context.now) }
     ensures kept { IsKept state.now.policies kept.new }
 {
+    if !due {
+        return Ok(None);
+    }
     let registry = state.registry();
     let (Some(op), Some(entry)) = (request.op(), registry.active_entry()) else {
         return Ok(None);
     };
-    if !is_due(state, entry, op, context) {
-        return Ok(None);
-    }
     let hit = hit_of(alloc, kept, entry, op, context)?;
     let line = access_line(
         alloc,
@@ -190,17 +184,6 @@ pub(crate) fn hook_entry(
         (task_reply requests.now running.old (Hook request subject.now file))) }
     ensures after { OnOk result (running.new ≡ after_task requests.now running.old (Hook request subject.now file)) }
 {
-    let object = object_of(requests, file)?;
-    let context = context_of(file);
-    let access = access_of(
-        alloc,
-        &running.state,
-        &mut running.image,
-        request,
-        subject,
-        &object,
-        &context,
-    )?;
     let asker = Subject {
         pid: subject.pid,
         comm: subject.comm.clone()?,
@@ -211,8 +194,18 @@ pub(crate) fn hook_entry(
         &mut running.state,
         request,
         asker,
-        object,
-        context,
+        object_of(requests, file)?,
+        context_of(file),
+    )?;
+    let access = access_of(
+        alloc,
+        ruling.record_due,
+        &running.state,
+        &mut running.image,
+        request,
+        subject,
+        &object_of(requests, file)?,
+        &context_of(file),
     )?;
     Ok(Entry::Hook {
         line,
