@@ -1,6 +1,6 @@
 -- A claim on a policy is held, and the record of an access is told by the image of the policy.
-use Rattle.std.proofs.Common.{◌≡◌, Bool, true, cond, List, ℕ, Option, Some, None}
-use Rattle.std.proofs.Common.{refl, sym, ap, ◌∙◌}
+use Rattle.std.proofs.Common.{◌≡◌, Bool, true, cond, IsTrue, List, [], ◌∷◌, ℕ, Option, Some, None}
+use Rattle.std.proofs.Common.{is_some, refl, slice_get, slice_set, sym, ap, ◌∙◌}
 use Rattle.std.specs.Option.{option_and_then, option_map}
 use Rattle.ipe_policy.specs.declared.op.Op.{Op}
 use Rattle.ipe_policy.specs.declared.evaluation.Context.{Context}
@@ -16,10 +16,28 @@ use Rattle.ipe_image.specs.Decision.{deciding}
 use Rattle.ipe_image.specs.Law.{DecideAlike}
 use Rattle.ipe_audit.specs.Records.{decided_text}
 use Rattle.ipe_machine.specs.Policies.{Loaded, Policies, active_entry, policy_in}
-use Rattle.ipe_machine.specs.Machine.{Machine, ruling_at, ruling_by}
+use Rattle.ipe_machine.specs.Machine.{Machine, after_claim, claimed, is_free, is_holding, ruling_at, ruling_by}
 use Rattle.ipe_machine.specs.Machine.{ruling_for}
 use Rattle.ipe_records.specs.Records.{access_by, access_for, access_of}
 use Rattle.ipe_replay.specs.Ruled.{IsRuledBy, parts_in}
+
+-- a free pass that takes something holds it
+held-claimed : (held : List (Option ℕ)) (serial : ℕ) → IsTrue (is_free (slice_get held 0))
+    → IsTrue (is_holding (slice_get (slice_set held 0 (Some serial)) 0))
+held-claimed [] serial free = free
+held-claimed (h ∷ held) serial free = refl
+
+-- a pass that was free holds the policy by which a hook is ruled
+pub holds-claimed : (m : Machine) (op : Option Op) (context : Context) → IsTrue (is_free (slice_get m.held 0))
+    → is_some (ruling_for m op context).serial ≡ true
+    → IsTrue (is_holding (slice_get (after_claim m 0 op).held 0))
+holds-claimed m None context free some = absurd cc
+holds-claimed m (Some op) context free some = by (active_entry m.policies) some
+  where
+    by : (entry : Option Loaded) → is_some (ruling_at m entry op context).serial ≡ true
+        → IsTrue (is_holding (slice_get (claimed m 0 entry).held 0))
+    by None some = absurd cc
+    by (Some entry) some = held-claimed m.held entry.serial free
 
 -- the record of an access that a statement decided
 decided : (m : Machine) (request : Request) (subject : Subject) (object : Object) (op : Op)

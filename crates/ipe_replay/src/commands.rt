@@ -8,14 +8,15 @@ ghost use Rattle.ipe_machine.specs.Machine.{after_event, outcome_of};
 ghost use Rattle.ipe_machine.specs.Refusals.{errno_of};
 ghost use Rattle.ipe_nodes.specs.Nodes.{node_read};
 ghost use Rattle.ipe_records.specs.Records.{records_of};
-ghost use Rattle.ipe_history.specs.Order.{after_task, asked_by, marks_of, task_reply, told};
+ghost use Rattle.ipe_history.specs.Order.{after_task, asked_by, task_reply, told};
 ghost use Rattle.ipe_history.specs.Transcript.{code_of, entry_of};
 ghost use Rattle.ipe_replay.specs.Room.{HasRoom};
 
 use crate::marks::bytes_of;
 use crate::records::{active_brief, answer_records};
+use crate::running::Replay;
 use ipe_audit::Lines;
-use ipe_core::{Command, CoreOutcome, Done, Event, Refusal, Reply, State, TrustList, step};
+use ipe_core::{Command, CoreOutcome, Done, Event, Refusal, Reply, State, step};
 use ipe_nodes::{command_of, read_registry};
 use ipe_script::{Requests, WriteContent};
 use ipe_transcript::Entry;
@@ -81,18 +82,17 @@ struct Made {
 
 // Steps the machine by a command, and gives the command back.
 fn stepped(
-    alloc: Global,
-    signer: &TrustList,
+    replay: &Replay<'_>,
     state: &mut State,
     command: Command,
 ) -> Result<(CoreOutcome, Command), AllocError>
     requires { HasRoom state.old 1 }
-    ensures outcome { IfOk result (λ made. made.0 ≡ outcome_of (last_verdict signer.now) state.old command) }
+    ensures outcome { IfOk result (λ made. made.0 ≡ outcome_of (last_verdict replay.now.signer) state.old command) }
     ensures command { IfOk result (λ made. made.1 ≡ command) }
-    ensures after { OnOk result (state.new ≡ after_event (last_verdict signer.now) state.old (event.Command command)) }
+    ensures after { OnOk result (state.new ≡ after_event (last_verdict replay.now.signer) state.old (event.Command command)) }
 {
     let event = Event::Command(command);
-    let reply = step(alloc, signer, state, &event)?;
+    let reply = step(replay.alloc, &replay.signer, state, &event)?;
     match (reply, event) {
         (Reply::Command(outcome), Event::Command(command)) => Ok((outcome, command)),
         _ => unreachable!(),
@@ -100,22 +100,17 @@ fn stepped(
 }
 
 // Steps the machine by a command. Which policy was active is looked up before it.
-fn run_command(
-    alloc: Global,
-    signer: &TrustList,
-    state: &mut State,
-    command: Command,
-) -> Result<Made, AllocError>
+fn run_command(replay: &Replay<'_>, state: &mut State, command: Command) -> Result<Made, AllocError>
     requires { HasRoom state.old 1 }
-    ensures outcome { IfOk result (λ made. made.outcome ≡ outcome_of (last_verdict signer.now) state.old command) }
+    ensures outcome { IfOk result (λ made. made.outcome ≡ outcome_of (last_verdict replay.now.signer) state.old command) }
     ensures records { IfOk result
-        (λ made. made.records ≡ records_of (last_verdict signer.now) state.old.policies command) }
-    ensures after { OnOk result (state.new ≡ after_event (last_verdict signer.now) state.old (event.Command command)) }
+        (λ made. made.records ≡ records_of (last_verdict replay.now.signer) state.old.policies command) }
+    ensures after { OnOk result (state.new ≡ after_event (last_verdict replay.now.signer) state.old (event.Command command)) }
 {
     let old = active_brief(state.registry())?;
-    let (outcome, command) = stepped(alloc, signer, state, command)?;
+    let (outcome, command) = stepped(replay, state, command)?;
     let records = answer_records(
-        alloc,
+        replay.alloc,
         old.as_ref(),
         state.registry(),
         &command.act,
@@ -126,25 +121,22 @@ fn run_command(
 
 // The entry of a write. One that asks for no command is answered without a step.
 pub(crate) fn write_entry(
-    alloc: Global,
-    signer: &TrustList,
-    requests: &Requests,
+    replay: &Replay<'_>,
     state: &mut State,
     line: u32,
     may: bool,
     node: &[u8],
     content: &WriteContent,
 ) -> Result<Entry, AllocError>
-    requires signer { signer.now ≡ marks_of requests.now }
-    requires room { HasRoom state.old 1 }
+    requires { HasRoom state.old 1 }
     ensures entry { IfOk result (λ made. made ≡ entry_of
         (record { line = line; task = Write may node.now content.now })
-        (task_reply requests.now state.old (Write may node.now content.now))) }
-    ensures after { OnOk result (state.new ≡ after_task requests.now state.old (Write may node.now content.now)) }
+        (task_reply replay.now.requests.now state.old (Write may node.now content.now))) }
+    ensures after { OnOk result (state.new ≡ after_task replay.now.requests.now state.old (Write may node.now content.now)) }
 {
-    match asked_by(alloc, requests, may, node, content)? {
+    match asked_by(replay.alloc, replay.requests, may, node, content)? {
         Ok(command) => {
-            let made = run_command(alloc, signer, state, command)?;
+            let made = run_command(replay, state, command)?;
             Ok(Entry::Write {
                 line,
                 may,
@@ -158,7 +150,7 @@ pub(crate) fn write_entry(
             may,
             code: refused_code(&refusal),
             epoch: state.registry().epoch(),
-            records: Lines::from_vec(Vec::new(alloc)),
+            records: Lines::from_vec(Vec::new(replay.alloc)),
         }),
     }
 }

@@ -1,6 +1,6 @@
 ghost use Rattle.std.specs.Prelude.{◌≡◌, ◌<◌, ◌^◌, ◌++◌, codes, length, map, IfOk, OnOk, sum_by};
 ghost use Rattle.std.specs.Fmt.{decimal};
-ghost use Rattle.ipe_history.specs.Order.{marks_of, line_reply, after_line, after_lines};
+ghost use Rattle.ipe_history.specs.Order.{line_reply, after_line, after_lines};
 ghost use Rattle.ipe_history.specs.Printed.{printed};
 ghost use Rattle.ipe_history.specs.Transcript.{entry_of, lines_text, phases_text, transcript};
 ghost use Rattle.ipe_transcript.specs.Lines.{entry_text, line_text};
@@ -9,8 +9,8 @@ ghost use Rattle.ipe_replay.specs.Room.{HasRoom};
 use crate::commands::{read_entry, write_entry};
 use crate::hooks::hook_entry;
 use crate::marks::signer_of;
-use crate::running::Running;
-use ipe_core::{State, TrustList};
+use crate::running::{Replay, Running};
+use ipe_core::State;
 use ipe_history::printed_parts;
 use ipe_script::{Phase, PhaseLine, Requests, Task};
 use ipe_transcript::{Entry, print_entry};
@@ -18,16 +18,13 @@ use std::alloc::{AllocError, Global};
 
 // Steps the machine by a line, and makes its entry.
 fn line_entry(
-    alloc: Global,
-    signer: &TrustList,
-    requests: &Requests,
+    replay: &Replay<'_>,
     running: &mut Running,
     line: &PhaseLine,
 ) -> Result<Entry, AllocError>
-    requires signer { signer.now ≡ marks_of requests.now }
-    requires room { HasRoom running.old 1 }
-    ensures entry { IfOk result (λ entry. entry ≡ entry_of line.now (line_reply requests.now running.old line.now)) }
-    ensures after { OnOk result (running.new ≡ after_line requests.now running.old line.now) }
+    requires { HasRoom running.old 1 }
+    ensures entry { IfOk result (λ entry. entry ≡ entry_of line.now (line_reply replay.now.requests.now running.old line.now)) }
+    ensures after { OnOk result (running.new ≡ after_line replay.now.requests.now running.old line.now) }
 {
     let number = line.line;
     match &line.task {
@@ -36,75 +33,64 @@ fn line_entry(
             // A command may change the active policy.
             running.image = None;
             let state = &mut running.state;
-            write_entry(alloc, signer, requests, state, number, *may, node, content)
+            write_entry(replay, state, number, *may, node, content)
         }
-        Task::Read { node } => read_entry(alloc, &running.state, number, node.as_slice()),
+        Task::Read { node } => read_entry(replay.alloc, &running.state, number, node.as_slice()),
         Task::Hook {
             request,
             subject,
             file,
-        } => hook_entry(
-            alloc, signer, requests, running, number, *request, subject, *file,
-        ),
+        } => hook_entry(replay, running, number, *request, subject, *file),
     }
 }
 
 // Steps the machine by a line, and prints its entry.
 fn replay_line(
-    alloc: Global,
-    signer: &TrustList,
-    requests: &Requests,
+    replay: &Replay<'_>,
     running: &mut Running,
     line: &PhaseLine,
     out: &mut Vec<u8>,
 ) -> Result<(), AllocError>
-    requires signer { signer.now ≡ marks_of requests.now }
-    requires room { HasRoom running.old 1 }
+    requires { HasRoom running.old 1 }
     ensures out { OnOk result (out.new.items ≡ out.old.items
-        ++ entry_text (entry_of line.now (line_reply requests.now running.old line.now))) }
-    ensures after { OnOk result (running.new ≡ after_line requests.now running.old line.now) }
+        ++ entry_text (entry_of line.now (line_reply replay.now.requests.now running.old line.now))) }
+    ensures after { OnOk result (running.new ≡ after_line replay.now.requests.now running.old line.now) }
 {
-    let entry = line_entry(alloc, signer, requests, running, line)?;
-    print_entry(alloc, out, &entry)
+    let entry = line_entry(replay, running, line)?;
+    print_entry(replay.alloc, out, &entry)
 }
 
 fn replay_lines(
-    alloc: Global,
-    signer: &TrustList,
-    requests: &Requests,
+    replay: &Replay<'_>,
     running: &mut Running,
     lines: &[PhaseLine],
     out: &mut Vec<u8>,
 ) -> Result<(), AllocError>
-    requires signer { signer.now ≡ marks_of requests.now }
-    requires room { HasRoom running.old (length lines.now) }
-    ensures out { OnOk result (out.new.items ≡ out.old.items ++ lines_text requests.now running.old lines.now) }
-    ensures after { OnOk result (running.new ≡ after_lines requests.now running.old lines.now) }
+    requires { HasRoom running.old (length lines.now) }
+    ensures out { OnOk result (out.new.items ≡ out.old.items ++ lines_text replay.now.requests.now running.old lines.now) }
+    ensures after { OnOk result (running.new ≡ after_lines replay.now.requests.now running.old lines.now) }
 {
     for line in lines {
-        replay_line(alloc, signer, requests, running, line, out)?;
+        replay_line(replay, running, line, out)?;
     }
     Ok(())
 }
 
 fn replay_phase(
-    alloc: Global,
-    signer: &TrustList,
-    requests: &Requests,
+    replay: &Replay<'_>,
     running: &mut Running,
     phase: &Phase,
     out: &mut Vec<u8>,
 ) -> Result<(), AllocError>
-    requires signer { signer.now ≡ marks_of requests.now }
-    requires room { HasRoom running.old (length phase.now) }
+    requires { HasRoom running.old (length phase.now) }
     ensures out { OnOk result
-        (out.new.items ≡ out.old.items ++ lines_text requests.now running.old (printed phase.now)) }
-    ensures after { OnOk result (running.new ≡ after_lines requests.now running.old (printed phase.now)) }
+        (out.new.items ≡ out.old.items ++ lines_text replay.now.requests.now running.old (printed phase.now)) }
+    ensures after { OnOk result (running.new ≡ after_lines replay.now.requests.now running.old (printed phase.now)) }
 {
     let (early, commands, late) = printed_parts(phase.lines.as_slice());
-    replay_lines(alloc, signer, requests, running, early, out)?;
-    replay_lines(alloc, signer, requests, running, commands, out)?;
-    replay_lines(alloc, signer, requests, running, late, out)
+    replay_lines(replay, running, early, out)?;
+    replay_lines(replay, running, commands, out)?;
+    replay_lines(replay, running, late, out)
 }
 
 fn print_heading(alloc: Global, out: &mut Vec<u8>, number: usize) -> Result<(), AllocError>
@@ -115,21 +101,19 @@ fn print_heading(alloc: Global, out: &mut Vec<u8>, number: usize) -> Result<(), 
 }
 
 fn replay_phases(
-    alloc: Global,
-    signer: &TrustList,
-    requests: &Requests,
+    replay: &Replay<'_>,
     running: &mut Running,
     out: &mut Vec<u8>,
 ) -> Result<(), AllocError>
-    requires signer { signer.now ≡ marks_of requests.now }
-    requires room { HasRoom running.old (sum_by length requests.now.phases) }
+    requires { HasRoom running.old (sum_by length replay.now.requests.now.phases) }
     ensures { OnOk result (out.new.items ≡ out.old.items
-        ++ phases_text requests.now 1 running.old (map printed requests.now.phases)) }
+        ++ phases_text replay.now.requests.now 1 running.old (map printed replay.now.requests.now.phases)) }
 {
+    let requests = replay.requests;
     for (place, phase) in requests.phases.iter().enumerate() {
         let number = place + 1;
-        print_heading(alloc, out, number)?;
-        replay_phase(alloc, signer, requests, running, phase, out)?;
+        print_heading(replay.alloc, out, number)?;
+        replay_phase(replay, running, phase, out)?;
     }
     Ok(())
 }
@@ -140,13 +124,17 @@ pub fn replay(alloc: Global, requests: &Requests) -> Result<Vec<u8>, AllocError>
     requires { sum_by length requests.now.phases < 2 ^ 32 }
     ensures { IfOk result (λ text. text.items ≡ transcript requests.now (map printed requests.now.phases)) }
 {
-    let signer = signer_of(alloc, requests)?;
+    let replay = Replay {
+        alloc,
+        requests,
+        signer: signer_of(alloc, requests)?,
+    };
     let mut running = Running {
         state: State::new(alloc, 1)?,
         image: None,
     };
     let mut out = b"ipe-transcript 1\n".to_vec(alloc)?;
-    replay_phases(alloc, &signer, requests, &mut running, &mut out)?;
+    replay_phases(&replay, &mut running, &mut out)?;
     out.extend_from_slice(b"end\n")?;
     Ok(out)
 }

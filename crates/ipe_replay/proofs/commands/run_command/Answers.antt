@@ -4,7 +4,7 @@ use Rattle.ipe_replay.proofs.commands.run_command.Goals as goal
 
 pub returns-clause-records : goal.returns-clause-records
 returns-clause-records c =
-    let told = command_is_told (last_verdict c.args.signer.now) c.args.state.now.policies c.args.command in
+    let told = command_is_told (last_verdict c.args.replay.now.signer) c.args.state.now.policies c.args.command in
     rw (
       c.in_ok-records.ensures,
       seen_is c.as_ref.result,

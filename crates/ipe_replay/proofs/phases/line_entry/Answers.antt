@@ -11,7 +11,7 @@ pub returns-in-Write-clause-entry : goal.returns-in-Write-clause-entry
 returns-in-Write-clause-entry c =
     let Made : Machine → Task → Type 0 = λ machine task.
     IfOk c.write_entry.result (λ entry. entry ≡ entry_of (record { line = c.args.line.now.line; task = task })
-    (task_reply c.args.requests.now machine task)) in
+    (task_reply c.args.replay.now.requests.now machine task)) in
     let made : Made c.running.inside.state (Write c.in-Write.may c.as_slice-node.result.now c.in-Write.content) =
     c.write_entry.ensures.entry in
     let of_node = subst (λ (node : List ℕ). Made c.running.inside.state (Write c.in-Write.may node c.in-Write.content))

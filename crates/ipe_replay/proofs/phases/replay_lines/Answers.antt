@@ -5,7 +5,7 @@ use Rattle.ipe_replay.proofs.phases.replay_lines.Goals as goal
 
 pub loop-line-preserved : goal.loop-line-preserved
 loop-line-preserved c =
-    let script = c.args.requests.now in
+    let script = c.args.replay.now.requests.now in
     let lines = c.args.lines.now in
     let i = c.loop-line.line-index in
     let lt : i < length lines = omega arith in

@@ -8,33 +8,33 @@ use Rattle.ipe_replay.proofs.LineLemmas.{machine-parts, text-parts}
 use Rattle.ipe_replay.proofs.RoomLemmas.{room-parts}
 use Rattle.ipe_replay.proofs.phases.replay_phase.Goals as goal
 
-pub replay_lines-requires-2-clause-room : goal.replay_lines-requires-2-clause-room
-replay_lines-requires-2-clause-room c =
-    let script = c.args.requests.now in
+pub replay_lines-requires-2 : goal.replay_lines-requires-2
+replay_lines-requires-2 c =
+    let script = c.args.replay.now.requests.now in
     let early = c.printed_parts.result.0.now in
     let commands = c.printed_parts.result.1.now in
     let late = c.printed_parts.result.2.now in
     let same : c.as_slice.result.now ≡ c.args.phase.now = cc in
     let all : length early + length commands + length late ≡ length c.args.phase.now = c.printed_parts.ensures.all
     ∙ ap length same in
-    let room = room-parts script c.args.running.now early commands late (length c.args.phase.now) all c.requires.room in
+    let room = room-parts script c.args.running.now early commands late (length c.args.phase.now) all c.requires in
     rw c.in_ok-replay_lines.ensures.after room.0
 
-pub replay_lines-requires-3-clause-room : goal.replay_lines-requires-3-clause-room
-replay_lines-requires-3-clause-room c =
-    let script = c.args.requests.now in
+pub replay_lines-requires-3 : goal.replay_lines-requires-3
+replay_lines-requires-3 c =
+    let script = c.args.replay.now.requests.now in
     let early = c.printed_parts.result.0.now in
     let commands = c.printed_parts.result.1.now in
     let late = c.printed_parts.result.2.now in
     let same : c.as_slice.result.now ≡ c.args.phase.now = cc in
     let all : length early + length commands + length late ≡ length c.args.phase.now = c.printed_parts.ensures.all
     ∙ ap length same in
-    let room = room-parts script c.args.running.now early commands late (length c.args.phase.now) all c.requires.room in
+    let room = room-parts script c.args.running.now early commands late (length c.args.phase.now) all c.requires in
     rw (c.in_ok-replay_lines-2.ensures.after, c.in_ok-replay_lines.ensures.after) room.1
 
 pub returns-clause-out : goal.returns-clause-out
 returns-clause-out c =
-    let script = c.args.requests.now in
+    let script = c.args.replay.now.requests.now in
     let early = c.printed_parts.result.0.now in
     let commands = c.printed_parts.result.1.now in
     let late = c.printed_parts.result.2.now in
@@ -52,7 +52,7 @@ returns-clause-out c =
 
 pub returns-clause-after : goal.returns-clause-after
 returns-clause-after c =
-    let script = c.args.requests.now in
+    let script = c.args.replay.now.requests.now in
     let early = c.printed_parts.result.0.now in
     let commands = c.printed_parts.result.1.now in
     let late = c.printed_parts.result.2.now in

@@ -10,8 +10,8 @@ use Rattle.ipe_replay.proofs.LineLemmas.{phases_text-drop, sum-drop, joined}
 use Rattle.ipe_replay.proofs.RoomLemmas.{room-after_lines, room-fewer}
 use Rattle.ipe_replay.proofs.phases.replay_phases.Goals as goal
 
-pub replay_phase-requires-clause-room : goal.replay_phase-requires-clause-room
-replay_phase-requires-clause-room c =
+pub replay_phase-requires : goal.replay_phase-requires
+replay_phase-requires c =
     let phases = c.deref-phase-items.result.now in
     let lt : c.loop-place.place < length phases = omega arith in
     let sum = sum-drop phases c.loop-place.place c.phase-item.result lt c.phase-item.is in
@@ -20,7 +20,7 @@ replay_phase-requires-clause-room c =
 
 pub loop-place-preserved : goal.loop-place-preserved
 loop-place-preserved c =
-    let script = c.args.requests.now in
+    let script = c.args.replay.now.requests.now in
     let phases = c.deref-phase-items.result.now in
     let i = c.loop-place.place in
     let m = c.loop-place.running in
