@@ -4,11 +4,13 @@ ghost use Rattle.std.specs.Prelude.{◌≡◌, ◌<◌, ◌≤◌, Err, length, 
 use super::{DevError, Devices};
 use std::io::{ErrorKind, Read, Seek, SeekFrom};
 use std::marker::Model;
+use std::os::unix::fs::FileTypeExt;
 use std::rt::Files;
 use std::{fs, io, str};
 
-/// The files of a system as devices. A name is a path, seen from the present folder. Of a file that isn't there nothing
-/// is counted. Every other error is a fault, and so is a file that gives nothing. Nothing is tried again.
+/// The files and block devices of a system as devices. A name is a path, seen from the present folder. Of one that
+/// isn't there nothing is counted. Every other error is a fault, and so is a path of something else, as a directory or a
+/// pipe, and a file that gives nothing. Nothing is tried again.
 #[derive(Drop)]
 pub struct FileDevices<R> {
     files: R,
@@ -105,7 +107,12 @@ fn read_from<R: Files>(files: &R, name: &[u8], at: u64, out: &mut [u8]) -> io::R
     file.read(out)
 }
 
+// A pipe isn't opened, since that would wait for one who writes to it.
 fn open<R: Files>(files: &R, name: &[u8]) -> io::Result<R::File> {
     let path = str::from_utf8(name).map_err(|_| io::Error::from(ErrorKind::InvalidInput))?;
+    let kind = fs::metadata(files, path)?.file_type();
+    if !kind.is_file() && !kind.is_block_device() {
+        return Err(io::Error::from(ErrorKind::InvalidInput));
+    }
     fs::open(files, path)
 }

@@ -79,6 +79,8 @@ fn files_are_devices(rt: HostRuntime) -> Result<(), Fail> {
     assert_eq!(rt; end, Err(DevError::Failed));
     assert_eq!(rt; devices.size(path.as_bytes()), Err(DevError::Missing));
     assert_eq!(rt; devices.size(b"\xff"), Err(DevError::Failed));
+    // A directory is no device.
+    assert_eq!(rt; devices.size(b"."), Err(DevError::Failed));
     Ok(())
 }
 
