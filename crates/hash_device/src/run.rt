@@ -1,10 +1,6 @@
-ghost use Rattle.dmv_tree.specs.Blocks.{AreBlocks};
-ghost use Rattle.hash_device.specs.Words.{asked_by};
-ghost use Rattle.hash_tree.specs.Chunks.{chunks};
-ghost use Rattle.hash_tree.specs.Tree.{stored};
+ghost use Rattle.hash_device.specs.Words.{asked_by, AreNoBlocks, WritesFirstBytes, WritesHashBlocks};
 ghost use Rattle.ipe_words.specs.Count.{Rose};
-ghost use Rattle.ipe_words.specs.Sink.{Appends, AppendsPrefix};
-ghost use Rattle.std.specs.Prelude.{◌≡◌, ◌≢◌, ◌↔◌, ◌⊎◌, [], None, Some, IfSome, length, map, string_bytes};
+ghost use Rattle.std.specs.Prelude.{◌≡◌, ◌≢◌, ◌↔◌, ◌⊎◌, [], None, Some, IfSome, map, string_bytes};
 
 use crate::words::asked_by_two;
 use crate::write_hash_blocks;
@@ -24,21 +20,18 @@ pub fn run<S: Source, K: Sink>(
 
     // Done: the image was read to its end, and its stored tree was written.
     ensures done_read { result ≡ Status.Done → IfSome (S.remaining source.old) (λ _. S.remaining source.new ≡ Some []) }
-    ensures done { result ≡ Status.Done → IfSome (asked_by (map string_bytes words.now.items)) (λ asked.
-        IfSome (S.remaining source.old) (λ image. AreBlocks (length image) asked.block_size
-        × Appends (K.written sink.old) (K.written sink.new)
-        (stored asked.block_size asked.salt (chunks asked.block_size image)))) }
+    ensures done { result ≡ Status.Done → WritesHashBlocks (asked_by (map string_bytes words.now.items))
+        (S.remaining source.old) (K.written sink.old) (K.written sink.new) }
 
     // Refused: it has no bytes, no whole number of blocks, or too many.
-    ensures refused { result ≡ Status.Refused → IfSome (asked_by (map string_bytes words.now.items)) (λ asked.
-        IfSome (S.remaining source.old) (λ image. AreBlocks (length image) asked.block_size → ⊥)) }
+    ensures refused { result ≡ Status.Refused →
+        AreNoBlocks (asked_by (map string_bytes words.now.items)) (S.remaining source.old) }
 
     // Faults come only where they were counted.
     ensures read_fault { result ≡ Status.ReadFault → Rose (S.faults source.old) (S.faults source.new) }
     ensures write_fault { result ≡ Status.WriteFault → Rose (K.faults sink.old) (K.faults sink.new) }
-    ensures write_prefix { result ≡ Status.WriteFault → IfSome (asked_by (map string_bytes words.now.items)) (λ asked.
-        IfSome (S.remaining source.old) (λ image. AppendsPrefix (K.written sink.old) (K.written sink.new)
-        (stored asked.block_size asked.salt (chunks asked.block_size image)))) }
+    ensures write_prefix { result ≡ Status.WriteFault → WritesFirstBytes (asked_by (map string_bytes words.now.items))
+        (S.remaining source.old) (K.written sink.old) (K.written sink.new) }
 
     // Without an answer nothing is written.
     ensures unwritten { (result ≡ Status.Refused) ⊎ (result ≡ Status.ReadFault) ⊎ (result ≡ Status.NoMemory) →

@@ -74,20 +74,7 @@ access_told alike m request subject object context op entry hit line asked activ
 abbrev with : Machine → Policies → Machine
 with m policies = record { policies = policies; count = m.count; held = m.held }
 
--- whether a record is due is told by the policies alone
-pub due-same : (m n : Machine) (op : Option Op) (context : Context) → m.policies ≡ n.policies
-    → (ruling_for m op context).record_due ≡ (ruling_for n op context).record_due
-due-same m n None context same = refl
-due-same m n (Some op) context same =
-    ap (λ (p : Policies). (ruling_at (with m p) (active_entry p) op context).record_due) same
-    ∙ at (active_entry n.policies)
-  where
-    at : (entry : Option Loaded)
-        → (ruling_at (with m n.policies) entry op context).record_due ≡ (ruling_at n entry op context).record_due
-    at None = refl
-    at (Some entry) = refl
-
--- and so is what it says
+-- what the record of an access says is told by the policies alone
 pub access-same : (m n : Machine) (request : Request) (subject : Subject) (object : Object) (context : Context)
     → m.policies ≡ n.policies → access_of m request subject object context ≡ access_of n request subject object context
 access-same m n request subject object context same =
