@@ -4,7 +4,7 @@ use Rattle.std.specs.List.{AllByRecursion}
 use Rattle.std.specs.Prelude.{slice_get}
 use Rattle.std.specs.Option.{ok_or, option_and_then, option_map, option_or}
 use Rattle.std.specs.Result.{IfOk}
-use Rattle.ipe_script.specs.Forms.{when}
+use Rattle.line_words.specs.Words.{when}
 
 -- what is there, if anything, has this
 abbrev pub Found : {X : Type 0} → (X → Type 0) → Option X → Type 0

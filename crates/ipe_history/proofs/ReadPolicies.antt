@@ -14,7 +14,8 @@ use Rattle.ipe_policy.specs.declared.statement.Property.{Property}
 use Rattle.ipe_policy.specs.declared.statement.Property.TheVariants.{BootVerified, DmverityRoothash, DmveritySignature, FsverityDigest, FsveritySignature}
 use Rattle.ipe_policy.specs.declared.statement.Statement.{Statement}
 use Rattle.ipe_policy.specs.declared.statement.Statement.TheVariants.{Rule, OpDefault, GlobalDefault}
-use Rattle.ipe_policy.specs.Words.{is_alg_byte, is_alg_name, is_name, is_name_byte, is_text, is_word}
+use Rattle.ipe_policy.specs.Words.{is_alg_byte, is_alg_name, is_name, is_name_byte}
+use Rattle.line_words.specs.Words.{is_text, is_word}
 use Rattle.ipe_policy.specs.Spelling.{action_token, digest_word, op_token, op_word, property_token, statement_text, statement_tokens}
 use Rattle.hex.specs.Hex.{encode_lower}
 use Rattle.ipe_parse.specs.declared.header.Header.{Header}

@@ -8,7 +8,8 @@ use Rattle.std.proofs.lemmas.List.Sums.{count_by-le-length}
 use Rattle.std.proofs.lemmas.List.Recursion.{is_sum_by}
 use Rattle.ipe_script.specs.declared.script.PhaseLine.{PhaseLine}
 use Rattle.ipe_script.specs.Script.{Script}
-use Rattle.ipe_script.specs.Grammar.{Progress, at_first, next, is_ended, is_line_feed, requests_from, requests_of}
+use Rattle.ipe_script.specs.Grammar.{Progress, at_first, next, is_ended, requests_from, requests_of}
+use Rattle.line_words.specs.Lines.{is_line_feed}
 use Rattle.ipe_history.specs.Order.{NumbersRise, CommandsFirst, IsFileOrder}
 use Rattle.ipe_history.specs.Spelled.{NumbersBelow}
 use Rattle.ipe_history.specs.Worded.{HasWords}

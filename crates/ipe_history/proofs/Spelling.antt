@@ -14,7 +14,8 @@ use Rattle.ipe_policy.specs.declared.evaluation.Which.TheVariants as which
 use Rattle.ipe_policy.specs.declared.op.Op.{Op}
 use Rattle.ipe_policy.specs.declared.request.Object.TheVariants as object
 use Rattle.ipe_policy.specs.Request.{evaluated_op}
-use Rattle.ipe_policy.specs.Words.{is_id_byte, is_quotable, is_word}
+use Rattle.ipe_policy.specs.Words.{is_id_byte, is_quotable}
+use Rattle.line_words.specs.Words.{is_word}
 use Rattle.ipe_machine.specs.declared.command.Command.{Command}
 use Rattle.ipe_machine.specs.declared.answer.Refusal.{Refusal}
 use Rattle.ipe_machine.specs.declared.event.Event.TheVariants as event
@@ -26,11 +27,10 @@ use Rattle.ipe_script.specs.declared.script.FileLine.{FileLine}
 use Rattle.ipe_script.specs.declared.script.PhaseLine.{PhaseLine}
 use Rattle.ipe_script.specs.declared.script.Task.{Task}
 use Rattle.ipe_script.specs.declared.script.Task.TheVariants.{Write, Read, Hook}
-use Rattle.ipe_script.specs.Forms.{is_blank}
-use Rattle.ipe_script.specs.Grammar.{is_line_feed}
+use Rattle.line_words.specs.Lines.{is_blank, is_line_feed, line_text}
 use Rattle.ipe_script.specs.Script.{Script, actor_of}
-use Rattle.ipe_script.proofs.Numbers.{number_of-decimal}
-use Rattle.ipe_transcript.specs.Lines.{access_line, acted_text, by_text, bytes_text, entry_text, hook_text, line_text, place_text, read_text, serial_text, told_text, who_text, write_text}
+use Rattle.line_words.proofs.Numbers.{number_of-decimal}
+use Rattle.ipe_transcript.specs.Lines.{access_line, acted_text, by_text, bytes_text, entry_text, hook_text, place_text, read_text, serial_text, told_text, who_text, write_text}
 use Rattle.ipe_history.specs.Order.{LineReply, wrote, told, ruled, after_hook, after_line, after_lines, after_task, after_write, asked_by, at_the_start, context_of, line_reply, object_of, task_reply, verdicts_of, write_reply}
 use Rattle.ipe_history.specs.Transcript.{code_of, entry_of, lines_text, may_of, phases_text, transcript}
 use Rattle.ipe_history.specs.Spelled.{line_spells, spelled, part_numbers, numbers_of, NumbersBelow}

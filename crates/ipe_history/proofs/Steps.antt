@@ -3,7 +3,8 @@ use Rattle.std.proofs.Common.{◌≡◌, ℕ, zero, suc, ◌+◌, ◌-◌, ◌�
 use Rattle.std.specs.List.{AllByRecursion}
 use Rattle.std.specs.Option.{option_map, option_and_then}
 use Rattle.std.specs.Prelude.{codes, is_none, nat_le, nat_lt}
-use Rattle.ipe_policy.specs.Words.{is_comm, is_dev_name, is_path, is_text}
+use Rattle.ipe_policy.specs.Words.{is_comm, is_dev_name, is_path}
+use Rattle.line_words.specs.Words.{is_text, when}
 use Rattle.ipe_policy.specs.declared.request.Subject.{Subject}
 use Rattle.std.proofs.lemmas.Bool.{false≢true}
 use Rattle.ipe_policy.specs.declared.request.Request.{Request}
@@ -19,7 +20,7 @@ use Rattle.ipe_script.specs.declared.form.Written.{Written}
 use Rattle.ipe_script.specs.declared.form.Form.{Form}
 use Rattle.ipe_script.specs.declared.form.Form.TheVariants as form
 use Rattle.ipe_script.specs.Script.{actor_of_task}
-use Rattle.ipe_script.specs.Forms.{form_of, when}
+use Rattle.ipe_script.specs.Forms.{form_of}
 use Rattle.ipe_script.specs.Grammar.{Stage, at_start, at_workers, in_text, in_texts, in_files, in_marks, in_phase, at_end, Progress, open_text, may_command, may_hook, may_declare_text, may_declare_file, may_mark, may_begin_phase, text_place, file_place, file_named, work_of, most_texts, most_files, most_marks, most_phases, most_commands, most_hooks, most_work, most_reads, onto_last, with_line, declare_text, declare_file, marked_at, add_mark, begin_phase, written_at, text_work, add_write, read_size, add_read, add_hook, end_file, with_form, with_formed, at_stage, next}
 use Rattle.ipe_history.specs.Worded.{AreWordedLines, HasWords, IsWordedFile, IsWordedTask}
 use Rattle.ipe_history.proofs.Cuts.{All_both}

@@ -6,9 +6,9 @@ use Rattle.std.specs.Fmt.{decimal, digit_glyph, digits, digits_onto, signed_deci
 use Rattle.std.proofs.lemmas.Bool.{and_parts, eqb-true, false≢true, false_from_ne_true, lt-ltb, ne_eqb}
 use Rattle.hex.specs.Hex.{encode_lower, encode_with, lower_digits}
 use Rattle.ipe_policy.specs.declared.version.Version.{Version}
-use Rattle.ipe_policy.specs.Words.{is_word}
-use Rattle.ipe_policy.specs.Spelling.{joined, version_text}
-use Rattle.ipe_script.specs.Grammar.{is_line_feed}
+use Rattle.line_words.specs.Words.{is_word}
+use Rattle.line_words.specs.Lines.{joined, is_line_feed}
+use Rattle.ipe_policy.specs.Spelling.{version_text}
 
 -- no byte of a text passes a test
 abbrev pub Lacks : (ℕ → Bool) → List ℕ → Type 0

@@ -5,10 +5,12 @@ use Rattle.std.specs.Option.{option_and_then, option_map, option_or}
 use Rattle.std.proofs.lemmas.Bool.{and_parts}
 use Rattle.ipe_policy.specs.declared.request.Request.{Request}
 use Rattle.ipe_policy.specs.declared.request.Request.TheVariants as request
-use Rattle.ipe_policy.specs.Words.{is_comm, is_dev_name, is_path, is_text}
+use Rattle.ipe_policy.specs.Words.{is_comm, is_dev_name, is_path}
+use Rattle.line_words.specs.Words.{is_text, number_of, when}
 use Rattle.ipe_script.specs.declared.form.Form.{Form}
 use Rattle.ipe_script.specs.declared.form.Form.TheVariants as form
-use Rattle.ipe_script.specs.Forms.{exec_form, file_form, form_of, form_of_words, hook_of, is_hook_line, is_node, kernel_load_form, kernel_read_form, kind_of, lone_form, mark_form, marked_of, mmap_form, most_hook_number, most_lines, mprotect_form, number_of, path_or_none, purpose_of, read_form, right_of, text_form, verdict_of, was_of, when, words_of, write_form, written_of}
+use Rattle.ipe_script.specs.Forms.{exec_form, file_form, form_of, form_of_words, hook_of, is_hook_line, is_node, kernel_load_form, kernel_read_form, kind_of, lone_form, mark_form, marked_of, mmap_form, most_hook_number, most_lines, mprotect_form, path_or_none, purpose_of, read_form, right_of, text_form, verdict_of, was_of, write_form, written_of}
+use Rattle.line_words.specs.Lines.{words_of}
 use Rattle.ipe_history.proofs.Given.{Found, found_and_then, found_either, found_map, found_or, found_when}
 
 -- a file's path and device, and the name of a hook's task, meet their rules

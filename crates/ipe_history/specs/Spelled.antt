@@ -1,10 +1,9 @@
 -- The line numbers that a text spells, and those that an order has.
 use Rattle.std.specs.Prelude.{ℕ, ◌<◌, codes, List, map, take, drop, Option}
 use Rattle.std.specs.List.{AllByRecursion, before_first, filter_map, flat_map, slice_split}
-use Rattle.ipe_policy.specs.Words.{is_text}
+use Rattle.line_words.specs.Words.{is_text, number_of, when}
 use Rattle.ipe_script.specs.declared.script.PhaseLine.{PhaseLine}
-use Rattle.ipe_script.specs.Forms.{is_blank, number_of, when}
-use Rattle.ipe_script.specs.Grammar.{is_line_feed}
+use Rattle.line_words.specs.Lines.{is_blank, is_line_feed}
 
 -- the number that stands between `line=`, with which a line begins, and the next blank
 abbrev pub line_spells : List ℕ → Option ℕ

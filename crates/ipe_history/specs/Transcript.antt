@@ -14,7 +14,8 @@ use Rattle.ipe_script.specs.declared.script.Task.TheVariants.{Write, Read, Hook}
 use Rattle.ipe_script.specs.Script.{Script, actor_of}
 use Rattle.ipe_transcript.specs.declared.entry.Entry.{Entry}
 use Rattle.ipe_transcript.specs.declared.entry.Entry.TheVariants as entry
-use Rattle.ipe_transcript.specs.Lines.{line_text, entry_text}
+use Rattle.line_words.specs.Lines.{line_text}
+use Rattle.ipe_transcript.specs.Lines.{entry_text}
 use Rattle.ipe_history.specs.Order.{LineReply, wrote, told, ruled, line_reply, after_line, after_lines, at_the_start}
 
 -- 0, or a minus sign and the number of the error

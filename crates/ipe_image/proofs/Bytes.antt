@@ -6,7 +6,7 @@ use borrow.Author.Tests.{ltb-true, lt-ltb}
 use Rattle.std.proofs.lemmas.Bool.{and_parts, and_from}
 use Rattle.std.proofs.lemmas.List.{take_all, take-append-drop, length-take-le, get_or-drop}
 use Rattle.std.proofs.lemmas.Slice.Eq.{bytes_eq-Decides}
-use Rattle.ipe_policy.specs.Words.{is_text}
+use Rattle.line_words.specs.Words.{is_text}
 use Rattle.ipe_image.proofs.WordLists.{at-zeros, zero-at}
 use Rattle.ipe_policy.specs.Spelling.{words_for}
 use Rattle.ipe_image.specs.Packing.{byte_words, bytes_in, word_bytes, word_of, words_of}

@@ -11,7 +11,8 @@ use Rattle.ipe_policy.specs.declared.statement.Property.{Property}
 use Rattle.ipe_policy.specs.declared.statement.Statement.TheVariants as statement
 use Rattle.ipe_policy.specs.Statement.{RuleParts, op_number, operations, same_op}
 use Rattle.ipe_policy.specs.Evaluation.{matches}
-use Rattle.ipe_policy.specs.Spelling.{action_token, joined, op_token, property_token, statement_text}
+use Rattle.ipe_policy.specs.Spelling.{action_token, op_token, property_token, statement_text}
+use Rattle.line_words.specs.Lines.{joined}
 use Rattle.ipe_image.specs.Parts.{ImageParts}
 use Rattle.ipe_image.specs.Image.{property_image, rule_record}
 use Rattle.ipe_image.specs.Reading.{fits_property, fits_rule, image_in}

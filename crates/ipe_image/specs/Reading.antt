@@ -9,7 +9,7 @@ use Rattle.ipe_policy.specs.declared.statement.Property.{Property}
 use Rattle.ipe_policy.specs.declared.statement.Property.TheVariants.{BootVerified, DmverityRoothash, DmveritySignature, FsverityDigest, FsveritySignature}
 use Rattle.ipe_policy.specs.Statement.{RuleParts, operations}
 use Rattle.ipe_policy.specs.Spelling.{property_words, rule_words, words_for}
-use Rattle.ipe_policy.specs.Words.{is_text}
+use Rattle.line_words.specs.Words.{is_text}
 use Rattle.ipe_image.specs.Packing.{bytes_in}
 use Rattle.ipe_image.specs.Parts.{ImageParts}
 use Rattle.ipe_image.specs.Image.{image_of, named_digest, words_used}

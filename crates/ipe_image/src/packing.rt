@@ -1,7 +1,7 @@
 ghost use Rattle.std.specs.Prelude.{◌≡◌, ◌≤◌, ℕ, IsTrue, List, length};
 ghost use Rattle.std.specs.List.{list_all};
 ghost use Rattle.ipe_policy.specs.Spelling.{words_for};
-ghost use Rattle.ipe_policy.specs.Words.{is_text};
+ghost use Rattle.line_words.specs.Words.{is_text};
 ghost use Rattle.ipe_image.specs.Packing.{byte_words, word_of};
 ghost use Rattle.ipe_image.specs.Reading.{is_byte};
 

@@ -5,7 +5,8 @@ use Rattle.std.proofs.Math.ListN.{drop_of_length-le}
 use Rattle.std.proofs.lemmas.Bool.{cond-false, cases_lt, lt-ltb, le-ltb}
 use Rattle.std.proofs.lemmas.List.{length-take-le}
 use Rattle.std.proofs.lemmas.List.Sums.{prefix_len-le-length}
-use Rattle.ipe_lex.specs.Lines.{PlacedLine, is_in_token, is_line_feed, is_separator, goes_on, lines_of, placed_lines, placed_tokens, uncommented}
+use Rattle.ipe_lex.specs.Lines.{PlacedLine, is_in_token, is_separator, goes_on, lines_of, placed_lines, placed_tokens, uncommented}
+use Rattle.line_words.specs.Lines.{is_line_feed}
 
 pub either : (b : Bool) → (b ≡ true) ⊎ (b ≡ false)
 either true = inl refl

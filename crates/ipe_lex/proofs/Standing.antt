@@ -2,7 +2,8 @@
 use Rattle.std.proofs.Common.{◌≡◌, ℕ, zero, suc, ◌+◌, ◌-◌, ◌≤◌, inl, inr, true, List, [], ◌∷◌, length, map, take, drop, refl, sym, ◌∙◌, ap, arith, length-take, length-drop, drop-drop}
 use Rattle.std.specs.List.{AllByRecursion, after_first, before_first, enumerate_from, onto_first, position_or_len}
 use Rattle.std.proofs.lemmas.List.{take-take}
-use Rattle.ipe_lex.specs.Lines.{PlacedToken, goes_on, is_comment_sign, is_line_feed, is_separator, lines_of, onto_token, placed_lines, placed_tokens, tokens_of, uncommented}
+use Rattle.ipe_lex.specs.Lines.{PlacedToken, goes_on, is_comment_sign, is_separator, lines_of, onto_token, placed_lines, placed_tokens, tokens_of, uncommented}
+use Rattle.line_words.specs.Lines.{is_line_feed}
 use Rattle.ipe_lex.specs.Places.{IsLineOf, IsTokenOf}
 use Rattle.ipe_lex.proofs.Cuts.{cut-cases, either, lines_of-first, placed_tokens-first}
 

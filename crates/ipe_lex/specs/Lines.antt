@@ -1,10 +1,7 @@
 -- Lines and tokens of a policy text, as whole lists (kernel admin-guide/LSM/ipe.rst, "IPE Policy").
 use Rattle.std.specs.Prelude.{ℕ, ◌+◌, ◌==◌, ◌||◌, Bool, false, not, if◌then◌else◌, List, [], ◌∷◌, length}
 use Rattle.std.specs.List.{onto_first, before_first}
-
--- the byte that ends a line
-abbrev pub is_line_feed : ℕ → Bool
-is_line_feed byte = byte == 10
+use Rattle.line_words.specs.Lines.{is_line_feed}
 
 -- the lines of a text, each without its line feed; a last one without a line feed is a line too
 abbrev pub lines_of : List ℕ → List (List ℕ)

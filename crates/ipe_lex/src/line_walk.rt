@@ -1,6 +1,7 @@
-ghost use Rattle.std.specs.Prelude.{◌≡◌, ◌+◌, ◌≤◌, length, position};
-ghost use Rattle.std.specs.List.{after_first, before_first};
-ghost use Rattle.ipe_lex.specs.Lines.{is_comment_sign, is_line_feed, uncommented};
+ghost use Rattle.std.specs.Prelude.{◌≡◌, ◌+◌, ◌≤◌, length};
+ghost use Rattle.ipe_lex.specs.Lines.{uncommented};
+
+use line_words::cut_at;
 
 /// A line without its line feed and its comment. Lines are numbered from 1, and `start` is the place of the line's
 /// first byte in the text.
@@ -22,36 +23,10 @@ pub struct LineWalk<'a> {
     ghost numbered: { number ≤ start + 1 },
 }
 
-fn first_line_feed(text: &[u8]) -> Option<usize>
-    ensures { result ≡ position is_line_feed text.now }
-{
-    text.iter().position(|byte| *byte == b'\n')
-}
-
-fn first_comment_sign(line: &[u8]) -> Option<usize>
-    ensures { result ≡ position is_comment_sign line.now }
-{
-    line.iter().position(|byte| *byte == b'#')
-}
-
-// The first line, and what stands after its line feed.
-fn cut_line(text: &[u8]) -> (&[u8], &[u8])
-    ensures line { result.0.now ≡ before_first is_line_feed text.now }
-    ensures rest { result.1.now ≡ after_first is_line_feed text.now }
-{
-    match first_line_feed(text) {
-        Some(end) => (&text[..end], &text[end + 1..]),
-        None => (text, &[]),
-    }
-}
-
 fn without_comment(line: &[u8]) -> &[u8]
     ensures { result.now ≡ uncommented line.now }
 {
-    match first_comment_sign(line) {
-        Some(end) => &line[..end],
-        None => line,
-    }
+    cut_at(line, b'#').0
 }
 
 impl<'a> Iterator for LineWalk<'a> {
@@ -68,7 +43,7 @@ impl<'a> Iterator for LineWalk<'a> {
         if self.rest.is_empty() {
             return None;
         }
-        let (line, rest) = cut_line(self.rest);
+        let (line, rest) = cut_at(self.rest, b'\n');
         let found = Line {
             number: self.number,
             start: self.start,

@@ -9,7 +9,7 @@ use lib.Pointwise.{bytes_decides}
 use Rattle.std.proofs.lemmas.Bool.{cases_Bool, ltb-false, not-false, both_ways}
 use Rattle.std.proofs.lemmas.List.Folds.{find-set, find_past}
 use Rattle.std.proofs.lemmas.List.Quantifiers.{position-Some}
-use Rattle.ipe_policy.specs.Words.{is_text}
+use Rattle.line_words.specs.Words.{is_text}
 use Rattle.ipe_policy.specs.Request.{evaluated_op}
 use Rattle.ipe_policy.specs.declared.op.Op.{Op}
 use Rattle.ipe_policy.specs.Version.{packed}

@@ -4,7 +4,7 @@ use Rattle.std.specs.Prelude.{ℕ, ◌+◌, Bool, true, false, List, [], ◌∷�
 use Rattle.std.specs.Option.{option_map_or, option_and_then, unwrap_or}
 use Rattle.std.specs.Result.{result_ok}
 use Rattle.ipe_policy.specs.declared.version.Version.{Version}
-use Rattle.ipe_policy.specs.Words.{is_text}
+use Rattle.line_words.specs.Words.{is_text}
 use Rattle.ipe_policy.specs.Policy.{PolicyParts}
 use Rattle.ipe_parse.specs.Reading.{reading}
 

@@ -1,7 +1,7 @@
 -- The numbers of refusals, and the accepted words for a truth value.
 use Rattle.std.specs.Prelude.{ℕ, ◌||◌, ◌++◌, Bool, codes, List, [], ◌∷◌, if◌then◌else◌}
 use Rattle.std.specs.List.{list_any}
-use Rattle.ipe_policy.specs.Words.{is_text}
+use Rattle.line_words.specs.Words.{is_text}
 use Rattle.ipe_words.specs.declared.errno.Errno as errno
 use Rattle.ipe_machine.specs.declared.answer.Refusal.{Refusal}
 use Rattle.ipe_machine.specs.declared.answer.Refusal.TheVariants.{NotPermitted, TooBig, Rejected, NoKey, BadPolicy, TooWide, Exists, NoSpace, NoEntry, Direction, OtherName, Stale, EpochFull, BadValue, IsActive}

@@ -3,7 +3,8 @@ use Rattle.std.specs.Prelude.{ℕ, ◌==◌, Bool, codes, if◌then◌else◌, L
 use Rattle.std.specs.declared.vec.Vec.{Vec}
 use Rattle.std.specs.List.{before_first, after_first}
 use Rattle.std.specs.Option.{option_map, ok_or}
-use Rattle.ipe_policy.specs.Words.{is_text, is_name}
+use Rattle.line_words.specs.Words.{is_byte, is_text}
+use Rattle.ipe_policy.specs.Words.{is_name}
 use Rattle.ipe_policy.specs.Spelling.{bit_text, version_text}
 use Rattle.ipe_machine.specs.declared.command.Act.{Act}
 use Rattle.ipe_machine.specs.declared.command.Act.TheVariants as act
@@ -31,7 +32,7 @@ leaf_of word =
 
 -- the test for the slash between two words of a path
 abbrev pub is_slash : ℕ → Bool
-is_slash byte = byte == 47
+is_slash = is_byte 47
 
 -- the node of NAME/LEAF: the name stands before the first slash, the file's word behind it
 abbrev pub policy_node : List ℕ → Option Node

@@ -1,8 +1,8 @@
-ghost use Rattle.std.specs.Prelude.{◌≡◌, position};
-ghost use Rattle.std.specs.List.{after_first, before_first};
-ghost use Rattle.ipe_nodes.specs.Nodes.{is_slash, leaf_of, node_of, policy_node};
+ghost use Rattle.std.specs.Prelude.{◌≡◌};
+ghost use Rattle.ipe_nodes.specs.Nodes.{leaf_of, node_of, policy_node};
 
 use ipe_policy::Name;
+use line_words::cut_at;
 
 // The files in a policy's folder.
 #[derive(Clone, Copy, Debug, PartialEq, Eq)]
@@ -23,23 +23,6 @@ pub(crate) enum Node {
     Enforce,
     SuccessAudit,
     OfPolicy(Name, Leaf),
-}
-
-fn first_slash(path: &[u8]) -> Option<usize>
-    ensures { result ≡ position is_slash path.now }
-{
-    path.iter().position(|byte| *byte == b'/')
-}
-
-// The bytes before the first slash, and those after it.
-fn cut_at_slash(path: &[u8]) -> (&[u8], &[u8])
-    ensures before { result.0.now ≡ before_first is_slash path.now }
-    ensures after { result.1.now ≡ after_first is_slash path.now }
-{
-    match first_slash(path) {
-        Some(at) => (&path[..at], &path[at + 1..]),
-        None => (path, &[]),
-    }
 }
 
 impl Leaf {
@@ -89,7 +72,7 @@ impl Node {
     fn of_policy(rest: &[u8]) -> Option<Node>
         ensures { result ≡ policy_node rest.now }
     {
-        let (name, word) = cut_at_slash(rest);
+        let (name, word) = cut_at(rest, b'/');
         let name = Name::read(name)?;
         Some(Node::OfPolicy(name, Leaf::read(word)?))
     }

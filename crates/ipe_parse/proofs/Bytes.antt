@@ -4,9 +4,9 @@ use Rattle.std.specs.List.{list_all, before_first, after_first, AllByRecursion}
 use Rattle.std.proofs.lemmas.Bool.{and_parts, and_from, not-true}
 use Rattle.std.proofs.lemmas.Bool.Decides.{nat_tests}
 use Rattle.std.proofs.lemmas.List.Folds.{list_all-append}
-use Rattle.ipe_lex.specs.Lines.{goes_on, is_comment_sign, is_in_token, is_line_feed, is_separator, lines_of, tokens_of, uncommented}
+use Rattle.ipe_lex.specs.Lines.{goes_on, is_comment_sign, is_in_token, is_separator, lines_of, tokens_of, uncommented}
+use Rattle.line_words.specs.Lines.{is_line_feed, joined}
 use Rattle.ipe_lex.proofs.Cuts.{before-hit, before-miss, after-hit, after-miss}
-use Rattle.ipe_policy.specs.Spelling.{joined}
 
 -- a byte that can stand in a word of a line: no separator, no line feed and no number sign
 abbrev pub is_plain : ℕ → Bool

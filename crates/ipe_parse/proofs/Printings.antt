@@ -18,7 +18,8 @@ use Rattle.ipe_policy.specs.declared.statement.Statement.{Statement}
 use Rattle.ipe_policy.specs.declared.statement.Statement.TheVariants.{Rule, OpDefault, GlobalDefault}
 use Rattle.ipe_policy.specs.declared.version.Version.{Version}
 use Rattle.ipe_policy.specs.Policy.{IsNamedDigest, IsProperty, IsStatement}
-use Rattle.ipe_policy.specs.Words.{is_alg_byte, is_digit, is_name, is_name_byte, is_text, is_word}
+use Rattle.ipe_policy.specs.Words.{is_alg_byte, is_name, is_name_byte}
+use Rattle.line_words.specs.Words.{is_digit, is_text, is_word}
 use Rattle.ipe_policy.specs.Spelling.{action_token, digest_word, op_token, property_token, statement_tokens, version_text}
 use Rattle.ipe_parse.specs.Reads.{SpellsDigest, SpellsProperty, SpellsStatement}
 use Rattle.ipe_parse.proofs.Bytes.{IsWord, all-append, all-weaker, is_plain}

@@ -12,7 +12,8 @@ use Rattle.ipe_policy.specs.declared.statement.Property.{Property}
 use Rattle.ipe_policy.specs.declared.statement.Statement.{Statement}
 use Rattle.ipe_policy.specs.declared.statement.Statement.TheVariants.{Rule, OpDefault, GlobalDefault}
 use Rattle.ipe_policy.specs.declared.version.Version.{Version}
-use Rattle.ipe_policy.specs.Words.{is_name, is_text}
+use Rattle.ipe_policy.specs.Words.{is_name}
+use Rattle.line_words.specs.Words.{is_text}
 use Rattle.ipe_policy.specs.Version.{version_of}
 use Rattle.ipe_policy.specs.Spelling.{action_token, op_token}
 use Rattle.ipe_parse.specs.declared.header.Header.{Header}

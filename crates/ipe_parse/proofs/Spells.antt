@@ -6,7 +6,7 @@ use Rattle.ipe_policy.specs.declared.op.Op.{Op}
 use Rattle.ipe_policy.specs.declared.op.Op.TheVariants.{Execute, Firmware, Kmodule, KexecImage, KexecInitramfs, Policy, X509Cert}
 use Rattle.ipe_policy.specs.declared.op.Action.{Action}
 use Rattle.ipe_policy.specs.declared.op.Action.TheVariants.{Allow, Deny}
-use Rattle.ipe_policy.specs.Words.{is_text}
+use Rattle.line_words.specs.Words.{is_text}
 use Rattle.ipe_policy.specs.Spelling.{op_word, action_token}
 use Rattle.ipe_parse.specs.Tokens.{action_named, begins, op_named}
 use Rattle.ipe_parse.proofs.Steps.{chosen}

@@ -1,7 +1,8 @@
 -- Lines with tokens, taken off the front one at a time.
 use Rattle.std.proofs.Common.{◌≡◌, ℕ, ◌+◌, ◌≤◌, List, [], ◌∷◌, length, map, filter, suc, inl, inr, refl, ap, arith}
 use Rattle.std.specs.List.{enumerate_from, onto_first}
-use Rattle.ipe_lex.specs.Lines.{is_line_feed, lines_of, placed_lines, tokens_of, uncommented}
+use Rattle.line_words.specs.Lines.{is_line_feed}
+use Rattle.ipe_lex.specs.Lines.{lines_of, placed_lines, tokens_of, uncommented}
 use Rattle.ipe_lex.proofs.Cuts.{either}
 use Rattle.ipe_parse.specs.Reading.{SpokenLine, is_spoken, spoken_lines}
 use Rattle.ipe_parse.specs.Walk.{spoken_of}

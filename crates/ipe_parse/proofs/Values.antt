@@ -9,8 +9,8 @@ use Rattle.std.proofs.lemmas.Str.Parse.{IsNumeralModel, numerals_by_fold}
 use Rattle.hex.specs.Hex.{IsBytes, decode_of, encode_lower}
 use Rattle.hex.proofs.HexLemmas.{decode_of-encode_lower, decode_of-ok}
 use Rattle.ipe_policy.specs.declared.version.Version.{Version}
-use Rattle.ipe_policy.specs.Words.{is_digit}
-use Rattle.ipe_policy.specs.Version.{digits_onto, is_dot, part_of, version_of}
+use Rattle.line_words.specs.Words.{is_digit, digits_onto}
+use Rattle.ipe_policy.specs.Version.{is_dot, part_of, version_of}
 use Rattle.ipe_policy.specs.Spelling.{version_text}
 use Rattle.ipe_parse.specs.Tokens.{hex_bytes}
 use Rattle.ipe_parse.proofs.Bytes.{after-at, all-weaker, before-at}

@@ -6,7 +6,8 @@ use Rattle.ipe_policy.specs.declared.statement.Statement.{Statement}
 use Rattle.ipe_policy.specs.declared.statement.Statement.TheVariants.{Rule, OpDefault, GlobalDefault}
 use Rattle.ipe_policy.specs.Policy.{IsPolicy, IsStatement, PolicyParts}
 use Rattle.ipe_policy.specs.Words.{is_name}
-use Rattle.ipe_policy.specs.Spelling.{header_text, joined, policy_text, statement_text, statement_tokens, version_text}
+use Rattle.ipe_policy.specs.Spelling.{header_text, policy_text, statement_text, statement_tokens, version_text}
+use Rattle.line_words.specs.Lines.{joined}
 use Rattle.ipe_parse.specs.Reading.{SpokenLine, is_spoken, reading, spoken_lines}
 use Rattle.ipe_parse.specs.Reads.{Reads, SpellsStatement}
 use Rattle.ipe_parse.proofs.Bytes.{IsWord, line-first, line-words}

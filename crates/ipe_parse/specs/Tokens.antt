@@ -12,7 +12,8 @@ use Rattle.ipe_policy.specs.declared.statement.Property.{Property}
 use Rattle.ipe_policy.specs.declared.statement.Property.TheVariants.{BootVerified, DmverityRoothash, DmveritySignature, FsverityDigest, FsveritySignature}
 use Rattle.ipe_policy.specs.declared.statement.Statement.{Statement}
 use Rattle.ipe_policy.specs.declared.statement.Statement.TheVariants.{Rule, OpDefault, GlobalDefault}
-use Rattle.ipe_policy.specs.Words.{is_text, is_alg_name, is_name}
+use Rattle.line_words.specs.Words.{is_byte, is_text}
+use Rattle.ipe_policy.specs.Words.{is_alg_name, is_name}
 use Rattle.ipe_policy.specs.Version.{version_of}
 use Rattle.ipe_policy.specs.Statement.{operations}
 use Rattle.ipe_policy.specs.Spelling.{op_word, action_token}
@@ -50,7 +51,7 @@ hex_bytes text = if nat_le 2 (length text) && nat_le (length text) 128 then resu
 
 -- the colon between an algorithm and its digits
 abbrev pub is_colon : ℕ → Bool
-is_colon byte = byte == 58
+is_colon = is_byte 58
 
 -- the digest of a word ALG:HEX
 abbrev pub digest_of : List ℕ → Option Digest

@@ -1,5 +1,5 @@
 ghost use Rattle.std.specs.Prelude.{◌≡◌, ◌-◌, ◌≤◌, codes, IfOk, length, take, vec_len};
-ghost use Rattle.ipe_policy.specs.Words.{is_text};
+ghost use Rattle.line_words.specs.Words.{is_text};
 ghost use Rattle.ipe_parse.specs.Tokens.{default_of, last_action, lone_action, properties_of, rule_of_line, statement_of};
 ghost use Rattle.ipe_parse.specs.Lines.{LineGives, words};
 

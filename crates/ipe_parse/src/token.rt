@@ -1,12 +1,12 @@
-ghost use Rattle.std.specs.Prelude.{◌≡◌, Some, None, length, drop, position, if◌then◌else◌, ◌==◌};
+ghost use Rattle.std.specs.Prelude.{◌≡◌, Some, None, length, drop, if◌then◌else◌, ◌==◌};
 ghost use Rattle.std.specs.Option.{option_copied};
-ghost use Rattle.std.specs.List.{after_first, before_first};
 ghost use Rattle.ipe_policy.specs.Spelling.{op_word};
-ghost use Rattle.ipe_policy.specs.Words.{is_text};
-ghost use Rattle.ipe_parse.specs.Tokens.{action_named, begins, digest_of, digest_property_of, hex_bytes, is_colon, op_named, op_of, property_of, truth_property_of};
+ghost use Rattle.line_words.specs.Words.{is_text};
+ghost use Rattle.ipe_parse.specs.Tokens.{action_named, begins, digest_of, digest_property_of, hex_bytes, op_named, op_of, property_of, truth_property_of};
 
 use crate::BadKind;
 use ipe_policy::{Action, AlgName, Digest, DigestBytes, Op, Property};
+use line_words::cut_at;
 
 // What stands behind a prefix of a token.
 pub(crate) fn behind<'a>(prefix: &[u8], token: &'a [u8]) -> Option<&'a [u8]>
@@ -46,23 +46,6 @@ pub(crate) fn action_named(token: &[u8]) -> Option<Action>
     None
 }
 
-fn first_colon(word: &[u8]) -> Option<usize>
-    ensures { result ≡ position is_colon word.now }
-{
-    word.iter().position(|byte| *byte == b':')
-}
-
-// The bytes before the first colon, and those after it.
-fn cut_at_colon(word: &[u8]) -> (&[u8], &[u8])
-    ensures before { result.0.now ≡ before_first is_colon word.now }
-    ensures after { result.1.now ≡ after_first is_colon word.now }
-{
-    match first_colon(word) {
-        Some(at) => (&word[..at], &word[at + 1..]),
-        None => (word, &[]),
-    }
-}
-
 fn hex_bytes(digits: &[u8]) -> Option<DigestBytes>
     ensures { result ≡ hex_bytes digits.now }
 {
@@ -78,7 +61,7 @@ fn hex_bytes(digits: &[u8]) -> Option<DigestBytes>
 fn digest_of(word: &[u8]) -> Option<Digest>
     ensures { result ≡ digest_of word.now }
 {
-    let (alg, digits) = cut_at_colon(word);
+    let (alg, digits) = cut_at(word, b':');
     let alg = AlgName::read(alg)?;
     let bytes = hex_bytes(digits)?;
     Some(Digest { alg, bytes })

@@ -5,7 +5,8 @@ use Rattle.ipe_policy.specs.declared.op.Op.{Op}
 use Rattle.ipe_policy.specs.declared.op.Action.{Action}
 use Rattle.ipe_policy.specs.declared.statement.Property.{Property}
 use Rattle.ipe_policy.specs.declared.statement.Statement.TheVariants.{Rule}
-use Rattle.ipe_policy.specs.Spelling.{joined, op_token, action_token, property_token, statement_text}
+use Rattle.line_words.specs.Lines.{joined}
+use Rattle.ipe_policy.specs.Spelling.{op_token, action_token, property_token, statement_text}
 
 -- some words, the middle ones made of a list
 pub joined-map : (first : List ℕ) (properties : List Property) (last : List ℕ) → joined (first ∷ (map property_token properties ++ last ∷ [])) ≡ first ++ (flat_map (λ property. 32 ∷ property_token property) properties ++ 32 ∷ last)

@@ -12,7 +12,7 @@ use Rattle.ipe_policy.specs.declared.evaluation.Context.{Context}
 use Rattle.ipe_policy.specs.declared.evaluation.Signed.{Signed}
 use Rattle.ipe_policy.specs.declared.evaluation.Found.{Found}
 use Rattle.ipe_policy.specs.declared.evaluation.Which as which
-use Rattle.ipe_policy.specs.Words.{is_text}
+use Rattle.line_words.specs.Words.{is_text}
 use Rattle.ipe_policy.specs.Statement.{RuleParts, rule_of, same_op}
 use Rattle.ipe_policy.specs.Policy.{op_defaults, global_defaults}
 

@@ -15,6 +15,7 @@ use Rattle.ipe_policy.specs.declared.statement.Statement.TheVariants.{Rule, OpDe
 use Rattle.ipe_policy.specs.declared.version.Version.{Version}
 use Rattle.ipe_policy.specs.Statement.{RuleParts, rule_of}
 use Rattle.ipe_policy.specs.Policy.{PolicyParts}
+use Rattle.line_words.specs.Lines.{joined}
 
 -- the word of an operation
 abbrev pub op_word : Op → List ℕ
@@ -62,12 +63,6 @@ abbrev pub statement_tokens : Statement → List (List ℕ)
 statement_tokens (Rule op properties action) = op_token op ∷ (map property_token properties ++ action_token action ∷ [])
 statement_tokens (OpDefault op action) = codes "DEFAULT" ∷ op_token op ∷ action_token action ∷ []
 statement_tokens (GlobalDefault action) = codes "DEFAULT" ∷ action_token action ∷ []
-
--- words parted by one blank
-abbrev pub joined : List (List ℕ) → List ℕ
-joined [] = []
-joined (word ∷ []) = word
-joined (word ∷ next ∷ words) = word ++ 32 ∷ joined (next ∷ words)
 
 -- a statement as it is printed, without the end of its line
 abbrev pub statement_text : Statement → List ℕ

@@ -2,13 +2,8 @@
 use Rattle.std.specs.Prelude.{ℕ, ◌+◌, ◌*◌, ◌-◌, ◌^◌, ◌==◌, ◌&&◌, nat_le, Bool, if◌then◌else◌, List, [], ◌∷◌, Option, Some, None}
 use Rattle.std.specs.List.{before_first, after_first}
 use Rattle.std.specs.Option.{option_and_then}
-use Rattle.ipe_policy.specs.Words.{is_word, is_digit}
+use Rattle.line_words.specs.Words.{digits_onto, is_byte, is_digit, is_word}
 use Rattle.ipe_policy.specs.declared.version.Version.{Version}
-
--- what decimal digits stand for, behind a number that stands before them
-abbrev pub digits_onto : ℕ → List ℕ → ℕ
-digits_onto before [] = before
-digits_onto before (digit ∷ digits) = digits_onto (before * 10 + (digit - 48)) digits
 
 -- one to five decimal digits
 abbrev pub is_part : List ℕ → Bool
@@ -20,7 +15,7 @@ part_of bytes = if is_part bytes && nat_le (digits_onto 0 bytes) 65535 then Some
 
 -- the test for the dot between two parts
 abbrev pub is_dot : ℕ → Bool
-is_dot byte = byte == 46
+is_dot = is_byte 46
 
 -- the version that a word X.Y.Z spells; the word is cut at its first two dots
 abbrev pub version_of : List ℕ → Option Version

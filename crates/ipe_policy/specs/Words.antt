@@ -1,27 +1,7 @@
 -- The rules of the words that policies and requests are made of, each as a test of its bytes.
 use Rattle.std.specs.Prelude.{ℕ, Bool, not, ◌&&◌, ◌||◌, ◌==◌, nat_le, nat_eq, codes, List, length}
 use Rattle.std.specs.List.{list_all, starts_with}
-use lib.Pointwise.{pointwise}
-
--- the bytes are this text
-abbrev pub is_text : List ℕ → List ℕ → Bool
-is_text text bytes = pointwise nat_eq bytes text
-
--- from low to high bytes long, each of them one that may stand there
-abbrev pub is_word : ℕ → ℕ → (ℕ → Bool) → List ℕ → Bool
-is_word low high may_stand bytes = nat_le low (length bytes) && nat_le (length bytes) high && list_all may_stand bytes
-
--- 0x21 to 0x7E: visible ASCII
-abbrev pub is_visible : ℕ → Bool
-is_visible byte = nat_le 0x21 byte && nat_le byte 0x7E
-
--- 0 to 9
-abbrev pub is_digit : ℕ → Bool
-is_digit byte = nat_le 48 byte && nat_le byte 57
-
--- a to z
-abbrev pub is_lower : ℕ → Bool
-is_lower byte = nat_le 97 byte && nat_le byte 122
+use Rattle.line_words.specs.Words.{is_digit, is_lower, is_text, is_visible, is_word}
 
 -- a to z, 0 to 9 and the dash
 abbrev pub is_alg_byte : ℕ → Bool

@@ -24,7 +24,7 @@ pub use request::{Hook, Kind, Object, Request, Subject};
 pub use spelling::{bit_text, print, statement_text, truth_word};
 pub use statement::{Digest, Properties, Property, Statement};
 pub use version::Version;
-pub use words::{AlgName, Comm, DevName, DigestBytes, Name, PathName, is_visible_word};
+pub use words::{AlgName, Comm, DevName, DigestBytes, Name, PathName};
 
 #[cfg(test)]
 mod tests;

@@ -1,9 +1,10 @@
-ghost use Rattle.std.specs.Prelude.{◌≡◌, ◌≤◌, IsTrue, Some, length, position};
-ghost use Rattle.std.specs.List.{after_first, before_first, list_all};
-ghost use Rattle.ipe_policy.specs.Version.{digits_onto, is_dot, is_part, part_of, version_of, packed};
-ghost use Rattle.ipe_policy.specs.Words.{is_digit};
+ghost use Rattle.std.specs.Prelude.{◌≡◌, ◌≤◌, IsTrue, Some, length};
+ghost use Rattle.std.specs.List.{list_all};
+ghost use Rattle.line_words.specs.Words.{digits_onto, is_digit};
+ghost use Rattle.ipe_policy.specs.Version.{is_part, part_of, version_of, packed};
 ghost use Rattle.ipe_policy.specs.Spelling.{version_text};
 
+use line_words::cut_at;
 use std::fmt;
 
 /// The version of a policy, X.Y.Z.
@@ -12,23 +13,6 @@ pub struct Version {
     pub major: u16,
     pub minor: u16,
     pub rev: u16,
-}
-
-fn first_dot(bytes: &[u8]) -> Option<usize>
-    ensures { result ≡ position is_dot bytes.now }
-{
-    bytes.iter().position(|byte| *byte == b'.')
-}
-
-// The bytes before the first dot, and those after it.
-fn cut_at_dot(bytes: &[u8]) -> (&[u8], &[u8])
-    ensures before { result.0.now ≡ before_first is_dot bytes.now }
-    ensures after { result.1.now ≡ after_first is_dot bytes.now }
-{
-    match first_dot(bytes) {
-        Some(at) => (&bytes[..at], &bytes[at + 1..]),
-        None => (bytes, &[]),
-    }
 }
 
 // The number that some digits spell, where they are at most five.
@@ -71,8 +55,8 @@ impl Version {
     pub fn read(bytes: &[u8]) -> Option<Version>
         ensures { result ≡ version_of bytes.now }
     {
-        let (major, rest) = cut_at_dot(bytes);
-        let (minor, rev) = cut_at_dot(rest);
+        let (major, rest) = cut_at(bytes, b'.');
+        let (minor, rev) = cut_at(rest, b'.');
         Some(Version {
             major: part(major)?,
             minor: part(minor)?,

@@ -1,28 +1,11 @@
-ghost use Rattle.std.specs.Prelude.{◌≡◌, ◌≤◌, ◌&&◌, nat_le, List, ℕ, IsTrue, SomeIff, length, ⊤};
+ghost use Rattle.std.specs.Prelude.{◌≡◌, ◌≤◌, List, ℕ, IsTrue, SomeIff, length, ⊤};
 ghost use Rattle.std.specs.List.{list_all};
-ghost use Rattle.ipe_policy.specs.Words.{is_alg_byte, is_alg_name, is_comm, is_dev_name, is_digest, is_digit, is_id_byte, is_lower, is_name, is_name_byte, is_path, is_quotable, is_visible, is_word};
+ghost use Rattle.ipe_policy.specs.Words.{is_alg_byte, is_alg_name, is_comm, is_dev_name, is_digest, is_id_byte, is_name, is_name_byte, is_path, is_quotable};
 
 use arrayvec::ArrayVec;
+use line_words::{has_length, is_digit, is_lower, is_visible};
 use std::alloc::AllocError;
 use std::marker::Model;
-
-fn is_visible(byte: u8) -> bool
-    ensures { result ≡ is_visible byte }
-{
-    (0x21..=0x7E).contains(&byte)
-}
-
-fn is_digit(byte: u8) -> bool
-    ensures { result ≡ is_digit byte }
-{
-    byte.is_ascii_digit()
-}
-
-fn is_lower(byte: u8) -> bool
-    ensures { result ≡ is_lower byte }
-{
-    byte.is_ascii_lowercase()
-}
 
 fn is_alg_byte(byte: u8) -> bool
     ensures { result ≡ is_alg_byte byte }
@@ -46,25 +29,6 @@ fn is_name_byte(byte: u8) -> bool
     ensures { result ≡ is_name_byte byte }
 {
     is_quotable(byte) && byte != b'/' && byte != b'#'
-}
-
-fn has_length(bytes: &[u8], low: usize, high: usize) -> bool
-    ensures { result ≡ (nat_le low (length bytes.now) && nat_le (length bytes.now) high) }
-{
-    low <= bytes.len() && bytes.len() <= high
-}
-
-fn all_visible(bytes: &[u8]) -> bool
-    ensures { result ≡ list_all is_visible bytes.now }
-{
-    bytes.iter().all(|byte| is_visible(*byte))
-}
-
-/// Whether a word has 1 to `most` bytes, all of them visible ASCII, 0x21 to 0x7E.
-pub fn is_visible_word(bytes: &[u8], most: usize) -> bool
-    ensures { result ≡ is_word 1 most is_visible bytes.now }
-{
-    has_length(bytes, 1, most) && all_visible(bytes)
 }
 
 fn all_alg_bytes(bytes: &[u8]) -> bool

@@ -7,7 +7,8 @@ use Rattle.std.proofs.lemmas.List.Sums.{sum_by-cons}
 use Rattle.ipe_machine.specs.Machine.{Machine}
 use Rattle.ipe_script.specs.declared.script.PhaseLine.{PhaseLine}
 use Rattle.ipe_script.specs.Script.{Script}
-use Rattle.ipe_transcript.specs.Lines.{entry_text, line_text}
+use Rattle.ipe_transcript.specs.Lines.{entry_text}
+use Rattle.line_words.specs.Lines.{line_text}
 use Rattle.ipe_history.specs.Order.{line_reply, after_line, after_lines}
 use Rattle.ipe_history.specs.Printed.{printed}
 use Rattle.ipe_history.specs.Transcript.{entry_of, lines_text, phases_text}

@@ -7,7 +7,7 @@ use Rattle.std.specs.List.{find, slice_set}
 use Rattle.std.specs.Option.{option_copied, option_map, option_map_or}
 use Rattle.std.proofs.lemmas.List.Folds.{find-set}
 use Rattle.std.proofs.lemmas.List.Quantifiers.{position-Some}
-use Rattle.ipe_policy.specs.Words.{is_text}
+use Rattle.line_words.specs.Words.{is_text}
 use Rattle.ipe_audit.specs.declared.records.Brief.{Brief}
 use Rattle.ipe_audit.specs.Records.{seen}
 use Rattle.ipe_machine.specs.declared.command.Act.{Act}

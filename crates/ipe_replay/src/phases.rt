@@ -3,7 +3,8 @@ ghost use Rattle.std.specs.Fmt.{decimal};
 ghost use Rattle.ipe_history.specs.Order.{line_reply, after_line, after_lines};
 ghost use Rattle.ipe_history.specs.Printed.{printed};
 ghost use Rattle.ipe_history.specs.Transcript.{entry_of, lines_text, phases_text, transcript};
-ghost use Rattle.ipe_transcript.specs.Lines.{entry_text, line_text};
+ghost use Rattle.ipe_transcript.specs.Lines.{entry_text};
+ghost use Rattle.line_words.specs.Lines.{line_text};
 ghost use Rattle.ipe_replay.specs.Room.{HasRoom};
 
 use crate::commands::{read_entry, write_entry};

@@ -1,10 +1,7 @@
-pub mod Numbers
 mod Words
 mod Lines
 mod Steps
 mod Longest
-mod Given
-mod Spells
 mod SpelledForms
 mod SoFar
 mod SpelledLines

@@ -6,15 +6,16 @@ use Rattle.std.specs.Option.{option_map, option_map_or}
 use Rattle.std.proofs.lemmas.List.{append-nil}
 use Rattle.std.proofs.lemmas.Grind.{flat_map-append}
 use Rattle.std.proofs.lemmas.Option.{slice_get-get_or, slice_get-map}
-use Rattle.word_index.proofs.Places.{position-below, position-reads}
-use Rattle.ipe_policy.specs.Words.{is_text}
+use Rattle.line_words.proofs.Places.{position-below, position-reads}
+use Rattle.line_words.specs.Words.{is_text}
 use Rattle.ipe_script.specs.declared.script.TextLine.{TextLine}
 use Rattle.ipe_script.specs.declared.script.FileLine.{FileLine}
 use Rattle.ipe_script.specs.declared.script.MarkLine.{MarkLine}
 use Rattle.ipe_script.specs.declared.script.PhaseLine.{PhaseLine}
 use Rattle.ipe_script.specs.declared.form.Form.TheVariants as form
 use Rattle.ipe_script.specs.Script.{Script, no_script}
-use Rattle.ipe_script.specs.Grammar.{Stage, at_start, at_workers, in_text, in_texts, in_files, in_marks, in_phase, at_end, may_declare_text, may_declare_file, may_mark, may_begin_phase, may_command, may_hook, is_line_feed}
+use Rattle.ipe_script.specs.Grammar.{Stage, at_start, at_workers, in_text, in_texts, in_files, in_marks, in_phase, at_end, may_declare_text, may_declare_file, may_mark, may_begin_phase, may_command, may_hook}
+use Rattle.line_words.specs.Lines.{is_line_feed}
 use Rattle.ipe_script.specs.Spelling.{Spells, AreNumbered, AreAllNumbered, first_phase_line, request_text, line_text, text_lines, form_of_file, form_of_mark, form_of_task, phase_lines}
 
 -- ---- the parts of a file

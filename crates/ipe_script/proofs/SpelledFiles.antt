@@ -7,7 +7,8 @@ use Rattle.std.proofs.lemmas.List.{append-nil}
 use Rattle.std.proofs.lemmas.List.Splits.{join_with_byte-slice_split}
 use Rattle.std.proofs.lemmas.List.Sums.{sum_by-cons}
 use Rattle.ipe_script.specs.Script.{Script}
-use Rattle.ipe_script.specs.Grammar.{Stage, Progress, at_first, at_start, at_workers, in_text, in_texts, in_files, in_marks, in_phase, at_end, is_ended, is_line_feed, next, requests_from, requests_of}
+use Rattle.ipe_script.specs.Grammar.{Stage, Progress, at_first, at_start, at_workers, in_text, in_texts, in_files, in_marks, in_phase, at_end, is_ended, next, requests_from, requests_of}
+use Rattle.line_words.specs.Lines.{is_line_feed}
 use Rattle.ipe_script.specs.Spelling.{Spells}
 use Rattle.ipe_script.proofs.SoFar.{Reads, feeds}
 use Rattle.ipe_script.proofs.SpelledLines.{ReadsNow, next-reads}

@@ -7,8 +7,10 @@ use Rattle.ipe_policy.specs.declared.request.Kind.{Kind}
 use Rattle.ipe_policy.specs.declared.request.Kind.TheVariants.{Firmware, Module, KexecImage, KexecInitramfs, Policy, X509}
 use Rattle.ipe_policy.specs.declared.request.Request.{Request}
 use Rattle.ipe_policy.specs.declared.request.Request.TheVariants as request
-use Rattle.ipe_policy.specs.Words.{is_text, is_word, is_visible, is_dev_name, is_path, is_comm}
-use Rattle.ipe_policy.specs.Spelling.{bit_text, joined}
+use Rattle.line_words.specs.Words.{is_text, is_word, is_visible, hex_of, number_of, when}
+use Rattle.ipe_policy.specs.Words.{is_dev_name, is_path, is_comm}
+use Rattle.ipe_policy.specs.Spelling.{bit_text}
+use Rattle.line_words.specs.Lines.{joined, words_of}
 use Rattle.ipe_script.specs.declared.script.MarkPurpose.{MarkPurpose}
 use Rattle.ipe_script.specs.declared.script.MarkPurpose.TheVariants as purpose
 use Rattle.ipe_script.specs.declared.script.MarkVerdict.{MarkVerdict}
@@ -19,11 +21,11 @@ use Rattle.ipe_script.specs.declared.form.Written.{Written}
 use Rattle.ipe_script.specs.declared.form.Written.TheVariants as written
 use Rattle.ipe_script.specs.declared.form.Form.{Form}
 use Rattle.ipe_script.specs.declared.form.Form.TheVariants as form
-use Rattle.ipe_script.specs.Forms.{exec_form, file_form, form_of, form_of_words, hex_of, hook_of, is_hook_line, is_node, kernel_load_form, kernel_read_form, kind_of, lone_form, mark_form, marked_of, mmap_form, most_hook_number, most_lines, mprotect_form, number_of, path_or_none, purpose_of, read_form, right_of, text_form, verdict_of, was_of, when, words_of, write_form, written_of}
+use Rattle.ipe_script.specs.Forms.{exec_form, file_form, form_of, form_of_words, hook_of, is_hook_line, is_node, kernel_load_form, kernel_read_form, kind_of, lone_form, mark_form, marked_of, mmap_form, most_hook_number, most_lines, mprotect_form, path_or_none, purpose_of, read_form, right_of, text_form, verdict_of, was_of, write_form, written_of}
 use Rattle.ipe_script.specs.Spelling.{form_words, hook_words, kind_word, marked_words, path_word, purpose_word, right_word, verdict_word, written_words}
-use Rattle.ipe_script.proofs.Given.{when-parts, map-parts, then-parts, or-cases, if-cases}
-use Rattle.ipe_script.proofs.Numbers.{number_of-is}
-use Rattle.ipe_script.proofs.Spells.{hex_of-is, hex_of-some, joined-words_of, named-is, text-is}
+use Rattle.line_words.proofs.Given.{when-parts, map-parts, then-parts, or-cases, if-cases}
+use Rattle.line_words.proofs.Numbers.{number_of-is}
+use Rattle.line_words.proofs.Spells.{hex_of-is, hex_of-some, joined-words_of, named-is, text-is}
 
 -- ---- what single words spell
 

@@ -5,7 +5,7 @@ use Rattle.std.specs.Option.{option_map, option_and_then}
 use Rattle.std.specs.Cmp.Lexicographic.{same_text}
 use Rattle.std.proofs.lemmas.List.{append-nil}
 use Rattle.std.proofs.lemmas.List.Sums.{sum_by-append, sum_by_push}
-use Rattle.ipe_policy.specs.Words.{is_text}
+use Rattle.line_words.specs.Words.{is_text, when}
 use Rattle.ipe_policy.specs.declared.request.Request.{Request}
 use Rattle.ipe_policy.specs.declared.request.Subject.{Subject}
 use Rattle.ipe_script.specs.declared.script.TextLine.{TextLine}
@@ -27,8 +27,9 @@ use Rattle.ipe_script.specs.declared.form.Written.TheVariants as written
 use Rattle.ipe_script.specs.declared.form.Form.{Form}
 use Rattle.ipe_script.specs.declared.form.Form.TheVariants as form
 use Rattle.ipe_script.specs.Script.{Script}
-use Rattle.ipe_script.specs.Forms.{form_of, when}
-use Rattle.ipe_script.specs.Grammar.{Stage, Progress, at_start, at_workers, in_text, in_texts, in_files, in_marks, in_phase, at_end, may_declare_text, may_declare_file, may_mark, may_begin_phase, may_command, may_hook, is_line_feed, open_text, with_raw, with_line, onto_last, text_place, file_place, declare_text, declare_file, add_mark, begin_phase, add_write, add_read, add_hook, end_file, with_form, with_formed, at_stage, next, marked_at, written_at, file_named, text_work, work_of, read_size, most_texts, most_files, most_marks, most_phases, most_commands, most_hooks, most_work, most_reads}
+use Rattle.ipe_script.specs.Forms.{form_of}
+use Rattle.ipe_script.specs.Grammar.{Stage, Progress, at_start, at_workers, in_text, in_texts, in_files, in_marks, in_phase, at_end, may_declare_text, may_declare_file, may_mark, may_begin_phase, may_command, may_hook, open_text, with_raw, with_line, onto_last, text_place, file_place, declare_text, declare_file, add_mark, begin_phase, add_write, add_read, add_hook, end_file, with_form, with_formed, at_stage, next, marked_at, written_at, file_named, text_work, work_of, read_size, most_texts, most_files, most_marks, most_phases, most_commands, most_hooks, most_work, most_reads}
+use Rattle.line_words.specs.Lines.{is_line_feed}
 use Rattle.ipe_script.specs.Spelling.{AreAllNumbered, first_phase_line, line_text, form_of_task, id_at, path_at, marked_in, written_in}
 use Rattle.ipe_script.proofs.Steps.{onto_last-append}
 use Rattle.ipe_script.proofs.SpelledForms.{form-spelled}

@@ -2,7 +2,8 @@
 use Rattle.std.proofs.Common.{◌≡◌, ℕ, ◌+◌, ◌<◌, ◌≤◌, List, [], ◌∷◌, length, None, count_by, refl, arith}
 use Rattle.std.specs.List.{slice_split}
 use Rattle.std.proofs.lemmas.List.Splits.{length-slice_split}
-use Rattle.ipe_script.specs.Forms.{is_blank, form_of_words, form_of}
+use Rattle.line_words.specs.Lines.{is_blank}
+use Rattle.ipe_script.specs.Forms.{form_of_words, form_of}
 
 form_of_words-many : (words : List (List ℕ)) → 7 < length words → None ≡ form_of_words words
 form_of_words-many [] many = refl

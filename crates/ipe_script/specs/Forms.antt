@@ -5,8 +5,9 @@ use Rattle.std.specs.List.{slice_split}
 use Rattle.std.specs.Option.{option_map, option_and_then, option_or}
 use Rattle.std.specs.Result.{result_ok}
 use Rattle.hex.specs.Hex.{decode_of}
-use Rattle.ipe_policy.specs.Words.{is_text, is_word, is_digit, is_visible, is_dev_name, is_path, is_comm}
-use Rattle.ipe_policy.specs.Version.{digits_onto}
+use Rattle.line_words.specs.Words.{hex_of, is_text, is_word, is_visible, number_of, when}
+use Rattle.line_words.specs.Lines.{words_of}
+use Rattle.ipe_policy.specs.Words.{is_dev_name, is_path, is_comm}
 use Rattle.ipe_policy.specs.declared.request.Kind.{Kind}
 use Rattle.ipe_policy.specs.declared.request.Kind.TheVariants.{Firmware, Module, KexecImage, KexecInitramfs, Policy, X509}
 use Rattle.ipe_policy.specs.declared.request.Request.{Request}
@@ -21,31 +22,6 @@ use Rattle.ipe_script.specs.declared.form.Written.{Written}
 use Rattle.ipe_script.specs.declared.form.Written.TheVariants as written
 use Rattle.ipe_script.specs.declared.form.Form.{Form}
 use Rattle.ipe_script.specs.declared.form.Form.TheVariants as form
-
--- one blank parts two words; an empty word is a word too
-abbrev pub is_blank : ℕ → Bool
-is_blank byte = byte == 32
-
--- the words of a line
-abbrev pub words_of : List ℕ → List (List ℕ)
-words_of line = slice_split is_blank line
-
--- words as they are seen through references
-abbrev pub seen : List (Bor (List ℕ)) → List (List ℕ)
-seen words = map (λ (word : Bor (List ℕ)). word.now) words
-
--- one to twenty digits, the first of them no zero that stands before others
-abbrev pub is_number : List ℕ → Bool
-is_number word = is_word 1 20 is_digit word && ((length word == 1) || not (slice_index word 0 == 48))
-
--- a decimal number without leading zeros, of at most this size
-unfoldable pub number_of : ℕ → List ℕ → Option ℕ
-number_of most word = if is_number word && nat_le (digits_onto 0 word) most then Some (digits_onto 0 word) else None
-
--- the same, where the condition holds
-abbrev pub when : {A : Type 0} → Bool → Option A → Option A
-when true found = found
-when false found = None
 
 -- the greatest number of lines of a text
 abbrev pub most_lines : ℕ
@@ -84,18 +60,6 @@ verdict_of word =
     else if is_text (codes "unknown") word then Some verdict.Unknown
     else if is_text (codes "revoked") word then Some verdict.Revoked
     else None
-
--- 0 to 9 and a to f
-abbrev pub is_lower_hex : ℕ → Bool
-is_lower_hex byte = is_digit byte || (nat_le 97 byte && nat_le byte 102)
-
--- from low to high digits, an even number of them
-abbrev pub is_hex : ℕ → ℕ → List ℕ → Bool
-is_hex low high word = is_word low high is_lower_hex word && (length word % 2 == 0)
-
--- the bytes that lower case digits spell, of which there are from low to high, an even number
-unfoldable pub hex_of : ℕ → ℕ → List ℕ → Option (List ℕ)
-hex_of low high word = when (is_hex low high word) (result_ok (decode_of word))
 
 -- the digest that is marked: of a text, or 64 digits
 unfoldable pub marked_of : List ℕ → List ℕ → Option Marked

@@ -2,7 +2,7 @@
 use Rattle.std.specs.Prelude.{ℕ, zero, suc, ◌+◌, ◌-◌, ◌==◌, ◌&&◌, Bool, true, false, not, nat_le, nat_lt, nat_eq, ◌||◌, if◌then◌else◌, codes, List, [], ◌∷◌, ◌++◌, length, Option, Some, None, is_none, Result, Ok, Err, position}
 use Rattle.std.specs.List.{ends_with, slice_split}
 use Rattle.std.specs.Option.{option_map, option_map_or, option_and_then}
-use Rattle.ipe_policy.specs.Words.{is_text}
+use Rattle.line_words.specs.Words.{is_text, when}
 use Rattle.ipe_policy.specs.declared.request.Request.{Request}
 use Rattle.ipe_policy.specs.declared.request.Request.TheVariants as request
 use Rattle.ipe_policy.specs.declared.request.Subject.{Subject}
@@ -23,7 +23,8 @@ use Rattle.ipe_script.specs.declared.form.Written.TheVariants as written
 use Rattle.ipe_script.specs.declared.form.Form.{Form}
 use Rattle.ipe_script.specs.declared.form.Form.TheVariants as form
 use Rattle.ipe_script.specs.Script.{Script, no_script, bytes_of, ids_of, paths_of, size_at}
-use Rattle.ipe_script.specs.Forms.{form_of, when}
+use Rattle.ipe_script.specs.Forms.{form_of}
+use Rattle.line_words.specs.Lines.{is_line_feed}
 
 -- how far into the file the lines so far have come. Within a text are its id, its bytes so far, and how many lines of
 -- it are to come; within a phase, whether a hook line stands in it
@@ -325,10 +326,6 @@ next progress number line = at_stage progress.stage progress number line
 abbrev pub is_ended : Stage → Bool
 is_ended at_end = true
 is_ended other = false
-
--- the line feed
-abbrev pub is_line_feed : ℕ → Bool
-is_line_feed byte = byte == 10
 
 -- what the pieces between line feeds ask, behind the lines so far, of which there are `number`; or the number of the
 -- first line that may not stand where it stands. What follows the last line feed is no line, and must be nothing,

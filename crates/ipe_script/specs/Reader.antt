@@ -1,6 +1,6 @@
 -- How far the reader has come, told by its fields.
 use Rattle.std.specs.Prelude.{◌≡◌, ◌≤◌, Bool, true, false, if◌then◌else◌, List, [], ◌∷◌, ◌++◌, Option, Some, None, position}
-use Rattle.ipe_policy.specs.Words.{is_text}
+use Rattle.line_words.specs.Words.{is_text}
 use Rattle.ipe_script.specs.declared.script.TextLine.{TextLine}
 use Rattle.ipe_script.specs.declared.script.PhaseLine.{PhaseLine}
 use Rattle.ipe_script.specs.declared.stage.Stage.{Stage}

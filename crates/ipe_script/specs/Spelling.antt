@@ -8,7 +8,8 @@ use Rattle.ipe_policy.specs.declared.request.Kind.{Kind}
 use Rattle.ipe_policy.specs.declared.request.Kind.TheVariants.{Firmware, Module, KexecImage, KexecInitramfs, Policy, X509}
 use Rattle.ipe_policy.specs.declared.request.Request.{Request}
 use Rattle.ipe_policy.specs.declared.request.Request.TheVariants as request
-use Rattle.ipe_policy.specs.Spelling.{bit_text, joined}
+use Rattle.ipe_policy.specs.Spelling.{bit_text}
+use Rattle.line_words.specs.Lines.{joined, is_line_feed}
 use Rattle.ipe_script.specs.declared.script.TextLine.{TextLine}
 use Rattle.ipe_script.specs.declared.script.FileLine.{FileLine}
 use Rattle.ipe_script.specs.declared.script.MarkLine.{MarkLine}
@@ -30,7 +31,6 @@ use Rattle.ipe_script.specs.declared.form.Written.TheVariants as written
 use Rattle.ipe_script.specs.declared.form.Form.{Form}
 use Rattle.ipe_script.specs.declared.form.Form.TheVariants as form
 use Rattle.ipe_script.specs.Script.{Script}
-use Rattle.ipe_script.specs.Grammar.{is_line_feed}
 
 -- ---- the words of a line
 

@@ -2,14 +2,17 @@ ghost use Rattle.std.specs.Prelude.{◌≡◌, IfOk};
 ghost use Rattle.ipe_script.specs.Forms.{is_node, read_form, right_of, write_form, written_of};
 
 use crate::form::{Form, Written};
-use crate::word::{copied, hex_bytes};
-use ipe_policy::{DevName, is_visible_word};
+use crate::word::copied;
+use ipe_policy::DevName;
 use ipe_words::Bytes;
+use line_words::{hex_bytes, is_visible_word};
 use std::alloc::{AllocError, Global};
 
 const MOST_NODE: usize = 320;
 
 const MOST_ECHO: usize = 64;
+
+const MOST_DIGITS: usize = 8192;
 
 // Whether who stands first in an administrator's line has the right.
 #[tactic(auto, unfolding(crate::specs::Forms::right_of))]
@@ -43,7 +46,7 @@ fn written_of(alloc: Global, kind: &[u8], word: &[u8]) -> Result<Option<Written>
     } else if kind == b"hex".as_slice() && word == b"-".as_slice() {
         Ok(Some(Written::Hex(Bytes::from_vec(Vec::new(alloc)))))
     } else if kind == b"hex".as_slice() {
-        Ok(hex_bytes(alloc, word)?.map(Written::Hex))
+        Ok(hex_bytes(alloc, 2, MOST_DIGITS, word)?.map(Written::Hex))
     } else {
         Ok(None)
     }

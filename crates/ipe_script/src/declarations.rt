@@ -1,7 +1,7 @@
 use crate::script::{FileLine, TextLine};
+use line_words::WordIndex;
 use std::alloc::{AllocError, Global};
 use std::marker::Model;
-use word_index::WordIndex;
 
 const LEAST_READ: usize = 4096;
 
@@ -28,7 +28,7 @@ impl Model for Texts {
 
 impl Texts {
     ghost use Rattle.std.specs.Prelude.{◌≡◌, ◌<◌, ◌++◌, ◌∷◌, [], None, length, position, OnOk, OnErr};
-    ghost use Rattle.ipe_policy.specs.Words.{is_text};
+    ghost use Rattle.line_words.specs.Words.{is_text};
     ghost use Rattle.ipe_script.specs.Script.{ids_of, text_at};
     ghost use Rattle.ipe_script.specs.Grammar.{longest};
 
@@ -114,7 +114,7 @@ impl Model for Files {
 
 impl Files {
     ghost use Rattle.std.specs.Prelude.{◌≡◌, ◌<◌, ◌++◌, ◌∷◌, [], None, length, position, OnOk, OnErr};
-    ghost use Rattle.ipe_policy.specs.Words.{is_text};
+    ghost use Rattle.line_words.specs.Words.{is_text};
     ghost use Rattle.ipe_script.specs.Script.{paths_of, size_at};
 
     pub fn new(alloc: Global) -> Files

@@ -1,6 +1,7 @@
-ghost use Rattle.std.specs.Prelude.{◌≡◌, ◌≤◌, ◌&&◌, ◌∷◌, [], codes, count_by, IfOk, IfSome};
-ghost use Rattle.ipe_policy.specs.Words.{is_text};
-ghost use Rattle.ipe_script.specs.Forms.{lone_form, text_form, file_form, number_of, form_of_words, is_blank, words_of, form_of, seen};
+ghost use Rattle.std.specs.Prelude.{◌≡◌, ◌&&◌, ◌∷◌, [], codes, IfOk};
+ghost use Rattle.line_words.specs.Words.{is_text};
+ghost use Rattle.ipe_script.specs.Forms.{lone_form, text_form, file_form, form_of_words, form_of};
+ghost use Rattle.line_words.specs.Lines.{seen};
 
 use crate::admin_form::{read_line, write_line};
 use crate::hook_form::{exec_line, kernel_load_line, kernel_read_line, mmap_line, mprotect_line};
@@ -8,6 +9,7 @@ use crate::mark_form::mark_line;
 use crate::script::{MarkPurpose, MarkVerdict};
 use ipe_policy::{DevName, DigestBytes, PathName, Request, Subject};
 use ipe_words::{Bytes, decimal};
+use line_words::{blanks, words_of};
 use std::alloc::{AllocError, Global};
 
 const MOST_LINES: u64 = 1_048_576;
@@ -42,13 +44,6 @@ pub enum Form {
     End,
 }
 
-pub fn number(word: &[u8], most: u64) -> Option<u64>
-    ensures number { result ≡ number_of most word.now }
-    ensures within { IfSome result (λ n. n ≤ most) }
-{
-    decimal(word, most)
-}
-
 fn is_boot_file(key: &[u8], kind: &[u8]) -> bool
     ensures { result ≡ (is_text (codes "file") key.now && is_text (codes "boot") kind.now) }
 {
@@ -78,7 +73,7 @@ fn text_line(key: &[u8], id: &[u8], lines: &[u8]) -> Option<Form>
         return None;
     }
     let id = DevName::read(id)?;
-    let lines = number(lines, MOST_LINES)?;
+    let lines = decimal(lines, MOST_LINES)?;
     Some(Form::Text(id, lines as u32))
 }
 
@@ -100,7 +95,7 @@ fn file_line(
     let path = PathName::read(path)?;
     let dev = DevName::read(dev)?;
     let text = DevName::read(text)?;
-    let ino = number(ino, u64::MAX)?;
+    let ino = decimal(ino, u64::MAX)?;
     Some(Form::File(path, dev, ino, text))
 }
 
@@ -154,19 +149,6 @@ fn form_of_words(alloc: Global, words: &[&[u8]]) -> Result<Option<Form>, AllocEr
         }
         _ => Ok(None),
     }
-}
-
-// The words of a line: each blank parts two.
-fn words_of(alloc: Global, line: &[u8]) -> Result<Vec<&[u8]>, AllocError>
-    ensures { IfOk result (λ words. seen words.items ≡ words_of line.now) }
-{
-    line.split(|byte| *byte == b' ').collect(alloc)
-}
-
-fn blanks(line: &[u8]) -> usize
-    ensures { result ≡ count_by is_blank line.now }
-{
-    line.iter().filter(|byte| **byte == b' ').count()
 }
 
 /// The form of a line, told by its words. A line with more words than any form has is not cut.

@@ -1,14 +1,16 @@
 ghost use Rattle.std.specs.Prelude.{◌≡◌, codes};
-ghost use Rattle.ipe_script.specs.Forms.{exec_form, hook_of, is_hook_line, kernel_load_form, kernel_read_form, kind_of, mmap_form, most_hook_number, mprotect_form, number_of, path_or_none, was_of};
+ghost use Rattle.ipe_script.specs.Forms.{exec_form, hook_of, is_hook_line, kernel_load_form, kernel_read_form, kind_of, mmap_form, most_hook_number, mprotect_form, path_or_none, was_of};
+ghost use Rattle.line_words.specs.Words.{number_of};
 
-use crate::form::{Form, number};
+use crate::form::Form;
 use ipe_policy::{Comm, Kind, PathName, Request, Subject};
+use ipe_words::decimal;
 
 // A process id, or the protection of a mapping.
 fn hook_number(word: &[u8]) -> Option<u32>
     ensures { result ≡ number_of most_hook_number word.now }
 {
-    let number = number(word, u64::from(u32::MAX))?;
+    let number = decimal(word, u64::from(u32::MAX))?;
     Some(number as u32)
 }
 

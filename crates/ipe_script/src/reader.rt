@@ -1,7 +1,6 @@
-ghost use Rattle.std.specs.Prelude.{◌≡◌, ◌≤◌, ◌++◌, ◌∷◌, [], length, position, IfNone, IfOk, IfSome, OnOk};
-ghost use Rattle.std.specs.List.{slice_split};
-ghost use Rattle.ipe_script.specs.Grammar.{requests_of, is_line_feed};
-ghost use Rattle.ipe_script.specs.Answers.{AsksOrFails, CutsLine};
+ghost use Rattle.std.specs.Prelude.{◌≡◌, ◌≤◌, ◌++◌, ◌∷◌, [], length, IfOk, OnOk};
+ghost use Rattle.ipe_script.specs.Grammar.{requests_of};
+ghost use Rattle.ipe_script.specs.Answers.{AsksOrFails};
 ghost use Rattle.ipe_script.specs.Spelling.{Spells};
 
 mod phase_lines;
@@ -14,6 +13,7 @@ use crate::script::{
 use crate::stage::Stage;
 use ipe_policy::{DevName, PathName};
 use ipe_words::Bytes;
+use line_words::cut_line;
 use std::alloc::{AllocError, Global};
 use std::marker::Model;
 use thiserror::Error;
@@ -346,21 +346,6 @@ fn append_line(bytes: &mut Vec<u8>, line: &[u8]) -> Result<(), AllocError>
     bytes.extend_from_slice(line)?;
     bytes.push(b'\n')?;
     Ok(())
-}
-
-fn first_line_feed(bytes: &[u8]) -> Option<usize>
-    ensures { result ≡ position is_line_feed bytes.now }
-{
-    bytes.iter().position(|byte| *byte == b'\n')
-}
-
-// The line before the first line feed, and what follows it.
-fn cut_line(bytes: &[u8]) -> Option<(&[u8], &[u8])>
-    ensures line { IfSome result (λ cut. CutsLine bytes.now cut.0.now cut.1.now) }
-    ensures last { IfNone result (slice_split is_line_feed bytes.now ≡ bytes.now ∷ []) }
-{
-    let end = first_line_feed(bytes)?;
-    Some((&bytes[..end], &bytes[end + 1..]))
 }
 
 /// What a request file declares and asks, or its first bad line. The file is the one spelling of what it asks.

@@ -2,7 +2,7 @@
 use Rattle.std.specs.Prelude.{ℕ, ◌==◌, ◌&&◌, Bool, List, reverse}
 use Rattle.std.specs.List.{find}
 use Rattle.std.specs.Option.{option_map_or}
-use Rattle.ipe_policy.specs.Words.{is_text}
+use Rattle.line_words.specs.Words.{is_text}
 use Rattle.ipe_signer.specs.declared.signer.Purpose.{Purpose}
 use Rattle.ipe_signer.specs.declared.signer.Purpose.TheVariants.{Policy, Root, File}
 use Rattle.ipe_signer.specs.declared.signer.Verdict.{Verdict}

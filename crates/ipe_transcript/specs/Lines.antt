@@ -8,10 +8,7 @@ use Rattle.ipe_policy.specs.declared.evaluation.Which.TheVariants as which
 use Rattle.ipe_machine.specs.declared.event.Place.{Place}
 use Rattle.ipe_transcript.specs.declared.entry.Entry.{Entry}
 use Rattle.ipe_transcript.specs.declared.entry.Entry.TheVariants as entry
-
--- a line with its line feed
-abbrev pub line_text : List ℕ → List ℕ
-line_text text = text ++ 10 ∷ []
+use Rattle.line_words.specs.Lines.{line_text}
 
 -- who wrote: one who may administer, or one who may not
 abbrev pub who_text : Bool → List ℕ

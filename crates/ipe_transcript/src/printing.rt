@@ -1,6 +1,7 @@
 ghost use Rattle.std.specs.Prelude.{◌≡◌, ◌++◌, IfOk, OnOk, string_bytes};
 ghost use Rattle.std.specs.List.{flat_map};
-ghost use Rattle.ipe_transcript.specs.Lines.{access_line, acted_text, by_text, bytes_text, entry_text, hook_text, line_text, place_text, read_text, serial_text, told_text, who_text, write_text};
+ghost use Rattle.ipe_transcript.specs.Lines.{access_line, acted_text, by_text, bytes_text, entry_text, hook_text, place_text, read_text, serial_text, told_text, who_text, write_text};
+ghost use Rattle.line_words.specs.Lines.{line_text};
 
 use crate::Entry;
 use ipe_audit::LineBytes;

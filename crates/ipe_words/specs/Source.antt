@@ -15,3 +15,7 @@ GivesTold left rest buf n = IfSome left (λ bytes. Gives bytes rest buf n)
 -- all that was left was taken, and it is these bytes
 abbrev pub TakesAll : Option (List ℕ) → Option (List ℕ) → List ℕ → Type 0
 TakesAll left rest bytes = IfSome left (λ all. (bytes ≡ all) × (rest ≡ Some []))
+
+-- where the source tells what is left, some first bytes of it were taken, and the rest is left
+abbrev pub LeavesRest : Option (List ℕ) → Option (List ℕ) → Type 0
+LeavesRest before after = IfSome before (λ left. (k : ℕ) × (k ≤ length left) × (after ≡ Some (drop k left)))

@@ -4,8 +4,6 @@
 //! its end and [`write_all`] writes a text whole, each by the counts and bytes that the two traits promise.
 #![tactic(auto)]
 
-mod bytes;
-mod decimal_number;
 mod errno;
 mod memory;
 mod sink;
@@ -13,9 +11,8 @@ mod source;
 mod status;
 mod std_edge;
 
-pub use bytes::Bytes;
-pub use decimal_number::decimal;
 pub use errno::Errno;
+pub use line_words::{Bytes, decimal};
 pub use memory::{MemorySink, MemorySource};
 pub use sink::{Sink, write_all};
 pub use source::{Failed, ReadAllError, Source, read_all};

@@ -1,6 +1,6 @@
 ghost use Rattle.std.specs.Prelude.{◌≡◌, ◌<◌, ◌≤◌, ℕ, List, Option, length, vec_len, IfOk, OnErr, IfSome, IsErrOf};
 ghost use Rattle.ipe_words.specs.Count.{Rose};
-ghost use Rattle.ipe_words.specs.Source.{GivesTold, TakesAll};
+ghost use Rattle.ipe_words.specs.Source.{GivesTold, LeavesRest, TakesAll};
 
 use std::alloc::Global;
 use thiserror::Error;
@@ -39,7 +39,8 @@ pub enum ReadAllError {
 // How many bytes a call of `read` is offered room for.
 const CHUNK: usize = 8192;
 
-/// All that is left of a source, where that is at most `limit` bytes.
+/// All that is left of a source, where that is at most `limit` bytes. After it is too long or out of memory, a rest of what
+/// was there is left.
 pub fn read_all<S: Source>(alloc: Global, src: &mut S, limit: u64) -> Result<Vec<u8>, ReadAllError>
     ensures all { IfOk result (λ bytes. TakesAll (S.remaining src.old) (S.remaining src.new) bytes.items) }
     ensures within { IfOk result (λ bytes. vec_len bytes ≤ limit) }
@@ -47,6 +48,10 @@ pub fn read_all<S: Source>(alloc: Global, src: &mut S, limit: u64) -> Result<Vec
     ensures too_long { IsErrOf result (ReadAllError.TooLong limit)
         → IfSome (S.remaining src.old) (λ left. limit < length left) }
     ensures limit_named { (other : ℕ) → IsErrOf result (ReadAllError.TooLong other) → other ≡ limit }
+    ensures rest_too_long { IsErrOf result (ReadAllError.TooLong limit)
+        → LeavesRest (S.remaining src.old) (S.remaining src.new) }
+    ensures rest_no_memory { IsErrOf result ReadAllError.NoMemory
+        → LeavesRest (S.remaining src.old) (S.remaining src.new) }
     ensures never_falls { S.faults src.old ≤ S.faults src.new }
 {
     let mut bytes = Vec::new(alloc);

@@ -48,24 +48,6 @@ fn writes_whole_pieces_until_a_call_fails(rt: HostRuntime) -> Result<(), Fail> {
 }
 
 #[test]
-fn reads_decimal_numbers(rt: HostRuntime) {
-    let cases = [
-        ("0", u64::MAX, Some(0)),
-        ("00", u64::MAX, None),
-        ("7", 7, Some(7)),
-        ("7", 6, None),
-        ("07", u64::MAX, None),
-        ("18446744073709551615", u64::MAX, Some(u64::MAX)),
-        ("18446744073709551616", u64::MAX, None),
-        ("", u64::MAX, None),
-        ("1a", u64::MAX, None),
-    ];
-    for (text, max, number) in cases {
-        assert_eq!(rt; decimal(text.as_bytes(), max), number, "at {text}");
-    }
-}
-
-#[test]
 fn numbers_are_those_of_linux_and_of_the_exit(rt: HostRuntime) {
     assert_eq!(rt; Errno::KeyRejected.number(), 129);
     assert_eq!(rt; Status::NoMemory.number(), 7);

@@ -14,7 +14,7 @@ use Rattle.ipe_parse.specs.declared.error.BadText.TheVariants.{Bad, NoDefault}
 use Rattle.ipe_parse.specs.Reading.{reading}
 use Rattle.ipe_words.specs.declared.status.Status.{Status}
 use Rattle.ipe_words.specs.declared.status.Status.TheVariants as status
-use Rattle.ipe_transcript.specs.Lines.{line_text}
+use Rattle.line_words.specs.Lines.{line_text}
 
 -- the most bytes of a policy's text
 abbrev pub most_policy_text : ℕ

@@ -2,7 +2,7 @@
 use Rattle.std.specs.Prelude.{◌≡◌, ℕ, ◌≤◌, codes, List, ◌++◌, length}
 use Rattle.hex.specs.Hex.{encode_lower}
 use Rattle.fsv_tree.specs.File.{described, file_digest}
-use Rattle.ipe_transcript.specs.Lines.{line_text}
+use Rattle.line_words.specs.Lines.{line_text}
 use Rattle.ipegate.specs.Program.{IsTooLong, most_input}
 use Rattle.ipe_words.specs.declared.status.Status.{Status}
 use Rattle.ipe_words.specs.declared.status.Status.TheVariants as status

@@ -11,7 +11,7 @@ use Rattle.ipe_script.specs.Spelling.{Spells}
 use Rattle.ipe_history.specs.Order.{IsWeave, IsInPlace}
 use Rattle.ipe_history.specs.Spelled.{numbers_of, spelled}
 use Rattle.ipe_history.specs.Transcript.{transcript}
-use Rattle.ipe_transcript.specs.Lines.{line_text}
+use Rattle.line_words.specs.Lines.{line_text}
 
 -- the most bytes of a request file, and of a file that is measured
 abbrev pub most_input : ℕ

@@ -7,7 +7,7 @@ use Rattle.dmv_tree.specs.Blocks.{AreBlocks}
 use Rattle.hash_tree.specs.Chunks.{chunks}
 use Rattle.hash_tree.specs.Shape.{blocks_above}
 use Rattle.hash_tree.specs.Tree.{fan_out, levels, root}
-use Rattle.ipe_transcript.specs.Lines.{line_text}
+use Rattle.line_words.specs.Lines.{line_text}
 use Rattle.ipegate.specs.declared.rooting.Refusal.{Refusal}
 use Rattle.ipegate.specs.declared.rooting.Refusal.TheVariants.{Missing, TooLarge, BadSize}
 use Rattle.ipe_words.specs.declared.status.Status.{Status}

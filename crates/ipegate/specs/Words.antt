@@ -4,7 +4,7 @@ use Rattle.std.specs.Prelude.{Some, None, IfSome, ◌⊎◌}
 use Rattle.std.specs.Option.{option_and_then}
 use Rattle.blk_device.specs.Contents.{Contents}
 use Rattle.dmv_tree.specs.Words.{block_size_of, salt_of}
-use Rattle.ipe_policy.specs.Words.{is_text, is_visible, is_word}
+use Rattle.line_words.specs.Words.{is_text, is_visible, is_word}
 use Rattle.ipegate.specs.Program.{IsReplay, IsRefusal, Writes, WritesPrefix}
 use Rattle.ipegate.specs.Lint.{IsLinted, IsLintRefusal}
 use Rattle.ipegate.specs.Root.{IsRooted, IsRootRefusal}

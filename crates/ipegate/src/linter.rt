@@ -1,6 +1,6 @@
 ghost use Rattle.std.specs.Prelude.{◌≡◌, ◌≢◌, ◌≤◌, ◌⊎◌, ◌++◌, [], length, codes, IfOk, IfSome, Some};
 ghost use Rattle.std.specs.Fmt.{decimal};
-ghost use Rattle.ipe_transcript.specs.Lines.{line_text};
+ghost use Rattle.line_words.specs.Lines.{line_text};
 ghost use Rattle.ipe_words.specs.Count.{Rose};
 ghost use Rattle.ipegate.specs.Program.{Writes, WritesPrefix, too_long_text};
 ghost use Rattle.ipegate.specs.Lint.{IsLinted, IsLintRefusal, IsLintAnswer, lint_text, fault_text, kind_name};

@@ -10,8 +10,8 @@ ghost use Rattle.ipegate.specs.Words.{WritesDone, WritesRefused, WritesSome};
 use crate::{measure, root};
 use blk_device::Devices;
 use dmv_tree::{Salt, block_size_of};
-use ipe_policy::is_visible_word;
 use ipe_words::{Sink, Source, Status};
+use line_words::is_visible_word;
 use std::alloc::Global;
 
 /// The most digits of the salt of a device's tree.

@@ -2,7 +2,7 @@ use Rattle.std.proofs.Common.{◌≡◌, ◌∙◌, ℕ, Bool, true, ◌&&◌, O
 use Rattle.std.specs.List.{list_all}
 use Rattle.std.proofs.lemmas.Bool.{and_parts}
 use Rattle.ipe_policy.specs.Spelling.{words_for}
-use Rattle.ipe_policy.specs.Words.{is_text}
+use Rattle.line_words.specs.Words.{is_text}
 use Rattle.ipe_policy.specs.Evaluation.{has_digest}
 use Rattle.ipe_policy.specs.declared.evaluation.Signed.{Signed}
 use Rattle.ipe_policy.specs.declared.statement.Property.{Property}

@@ -1,5 +1,5 @@
 use Rattle.std.proofs.Common.{◌≡◌, ◌<◌, ◌^◌, drop}
-use Rattle.ipe_policy.specs.Version.{digits_onto}
+use Rattle.line_words.specs.Words.{digits_onto}
 use Rattle.ipe_policy.proofs.version.number.Given as goal
 
 -- the rest of the digits, behind what is read, make the whole number

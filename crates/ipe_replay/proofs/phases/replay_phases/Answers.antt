@@ -1,7 +1,7 @@
 use Rattle.std.proofs.Common.{◌≡◌, ℕ, ◌+◌, ◌<◌, ◌++◌, List, map, length, drop, sum_by, codes, sym, ap, ◌∙◌, arith}
 use Rattle.std.specs.Fmt.{decimal}
 use Rattle.ipe_script.specs.declared.script.PhaseLine.{PhaseLine}
-use Rattle.ipe_transcript.specs.Lines.{line_text}
+use Rattle.line_words.specs.Lines.{line_text}
 use Rattle.ipe_history.specs.Order.{after_lines}
 use Rattle.ipe_history.specs.Printed.{printed}
 use Rattle.ipe_history.specs.Transcript.{lines_text, phases_text}

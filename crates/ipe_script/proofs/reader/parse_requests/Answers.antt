@@ -1,6 +1,6 @@
 use Rattle.std.proofs.Common.{◌≡◌, Ok, arith, rules}
 use Rattle.ipe_script.specs.Grammar.{requests_of}
-use Rattle.ipe_script.specs.Answers.{CutsLine}
+use Rattle.line_words.specs.Lines.{CutsLine}
 use Rattle.ipe_script.proofs.Lines.{asked-taken, asked-refused}
 use Rattle.ipe_script.proofs.SpelledFiles.{file-spelled}
 use Rattle.ipe_script.proofs.reader.parse_requests.Goals as goal

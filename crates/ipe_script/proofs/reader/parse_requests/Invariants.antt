@@ -1,6 +1,7 @@
 use Rattle.std.proofs.Common.{◌≡◌, ◌+◌, ◌≤◌, length}
 use Rattle.std.specs.List.{slice_split}
-use Rattle.ipe_script.specs.Grammar.{is_line_feed, requests_of, requests_from}
+use Rattle.line_words.specs.Lines.{is_line_feed}
+use Rattle.ipe_script.specs.Grammar.{requests_of, requests_from}
 use Rattle.ipe_script.proofs.reader.parse_requests.Given as goal
 
 -- what the file asks is what its rest asks behind the lines so far

@@ -1,6 +1,6 @@
 use Rattle.std.proofs.Common.{◌≡◌, ◌++◌, drop}
 use Rattle.std.specs.List.{flat_map}
-use Rattle.ipe_transcript.specs.Lines.{line_text}
+use Rattle.line_words.specs.Lines.{line_text}
 use Rattle.ipe_transcript.proofs.printing.append_lines.Given as goal
 
 -- what is appended, and what the lines that are left will add, is what all the lines add
