@@ -1,0 +1,13 @@
+pub mod Words
+pub mod Frames
+pub mod Counts
+pub mod Frees
+pub mod Tables
+pub mod Seats
+pub mod Steps
+pub mod Joining
+pub mod Told
+pub mod Whole
+pub mod Claiming
+pub mod Slots
+pub mod Props

@@ -1,0 +1,12 @@
+pub mod History
+pub mod Owners
+pub mod Active
+pub mod Places
+pub mod Regions
+pub mod Legal
+pub mod Words
+pub mod Views
+pub mod Rule
+pub mod Plays
+pub mod Cuts
+pub mod Laws
