@@ -25,7 +25,8 @@ use Rattle.ipe_policy.specs.Request.{evaluated_op, hook_of}
 use Rattle.ipe_policy.specs.Spelling.{bit_text, op_word, statement_text, version_text}
 use Rattle.ipe_policy.specs.Statement.{RuleParts, rule_of}
 use Rattle.ipe_image.specs.Parts.{ImageParts, parts_of}
-use Rattle.ipe_image.specs.Decision.{deciding, rule_statement}
+use Rattle.ipe_image.specs.Parts.{rule_statement}
+use Rattle.ipe_image.specs.Decision.{deciding}
 use Rattle.ipe_audit.specs.declared.records.Brief.{Brief}
 use Rattle.ipe_audit.specs.Records.{access_text, activation_text, enforce_text, hook_word, load_text, new_text}
 use Rattle.ipe_audit.specs.Records.{object_text, old_text, told}

@@ -9,9 +9,9 @@ use Rattle.ipe_policy.specs.declared.evaluation.Found.{Found}
 use Rattle.ipe_policy.specs.declared.evaluation.Which.TheVariants.{Rule, OpDefault, GlobalDefault}
 use Rattle.ipe_policy.specs.Statement.{RuleParts}
 use Rattle.ipe_policy.specs.Evaluation.{matches}
-use Rattle.ipe_image.specs.Parts.{ImageParts}
+use Rattle.ipe_image.specs.Parts.{ImageParts, own_default}
 use Rattle.ipe_image.specs.Image.{rule_record}
-use Rattle.ipe_image.specs.Decision.{default_found, default_of, first_match_in, own_default, record_in}
+use Rattle.ipe_image.specs.Decision.{default_found, default_of, first_match_in, record_in}
 
 -- a rule that was found under a number stands in its place, and passes the test
 pub record Stands (test : (ℕ × RuleParts)

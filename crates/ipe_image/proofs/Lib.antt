@@ -8,6 +8,8 @@ pub mod Records
 pub mod Told
 pub mod Deciders
 pub mod Roundtrip
+pub mod Rules
 pub mod Policies
+pub mod OfPolicies
 pub mod Unpacking
 pub mod Texts

@@ -11,10 +11,9 @@ use Rattle.ipe_policy.specs.declared.op.Action.{Action}
 use Rattle.ipe_policy.specs.declared.op.Action.TheVariants.{Allow, Deny}
 use Rattle.ipe_policy.specs.Statement.{op_number}
 use Rattle.ipe_policy.specs.Spelling.{rule_words}
-use Rattle.ipe_image.specs.Parts.{ImageParts}
+use Rattle.ipe_image.specs.Parts.{ImageParts, own_default}
 use Rattle.ipe_image.specs.Image.{default_word, image_of, records, words_used}
 use Rattle.ipe_image.specs.Reading.{default_read, fits_rule, is_complete}
-use Rattle.ipe_image.specs.Decision.{own_default}
 use Rattle.ipe_image.proofs.Sizes.{length-records}
 
 -- what the test of complete parts says

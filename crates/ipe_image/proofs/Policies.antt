@@ -14,12 +14,13 @@ use Rattle.ipe_policy.specs.declared.evaluation.Which.TheVariants.{OpDefault, Gl
 use Rattle.ipe_policy.specs.Statement.{RuleParts, operations, rule_of}
 use Rattle.ipe_policy.specs.Policy.{IsPolicy, global_defaults, op_defaults}
 use Rattle.ipe_policy.specs.Evaluation.{decision, first_default, first_match}
-use Rattle.ipe_image.specs.Parts.{parts_of}
+use Rattle.ipe_image.specs.Parts.{own_default, parts_of}
 use Rattle.ipe_image.specs.Reading.{has_defaults, is_complete}
 use Rattle.ipe_policy.specs.Spelling.{words_of_image}
 use Rattle.ipe_image.specs.Image.{default_word, image_of, records, words_used}
-use Rattle.ipe_image.specs.Decision.{decision_in, default_found, default_of, own_default}
+use Rattle.ipe_image.specs.Decision.{decision_in, default_found, default_of}
 use Rattle.ipe_image.specs.Law.{HasImage}
+use Rattle.ipe_image.proofs.Rules.{rules-fit}
 
 -- a list with an element has a first one
 first-some : (xs : List Action) → 1 ≤ length xs → is_some (slice_get xs 0) ≡ true
@@ -61,7 +62,7 @@ some-defaults items serial h = at (global_defaults items) refl
 pub parts-complete : (items : List Statement) (serial : ℕ) → HasImage items → is_complete (parts_of serial items) ≡ true
 parts-complete items serial h =
     let few : words_used (parts_of serial items) ≤ 4096 = h.few in
-    and_from (has_defaults (parts_of serial items)) _ (some-defaults items serial h.policy) (and_from _ _ h.rules
+    and_from (has_defaults (parts_of serial items)) _ (some-defaults items serial h.policy) (and_from _ _ (rules-fit items h.policy.statements)
     (le-leb _ 4096 few))
 
 -- the first of some defaults

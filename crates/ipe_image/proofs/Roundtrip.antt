@@ -2,7 +2,6 @@
 use Rattle.std.proofs.Common.{◌≡◌, ◌∙◌, ℕ, ◌+◌, ◌*◌, ◌/◌, ◌%◌, ◌^◌, ◌<◌, ◌≤◌, suc, Bool, true, false, ◌==◌, ◌&&◌, cond, List, [], ◌∷◌, ◌++◌, length, map, get_or, take, drop, slice_get, Option, Some, None, is_some, ◌-◌, replicate, option_map, refl, ap, arith, append_assoc, length-append}
 use Rattle.std.specs.Prelude.{option_and_then}
 use Rattle.std.specs.List.{flat_map, list_all}
-use borrow.Author.Tests.{leb-true}
 use Rattle.std.proofs.lemmas.Bool.{and_parts, and_from}
 use Rattle.std.proofs.lemmas.List.{drop_at, length-map, take_at}
 use Rattle.std.proofs.lemmas.Slice.Eq.{bytes_eq-Decides}
@@ -22,7 +21,7 @@ use Rattle.ipe_image.specs.Reading.{begins, decoded, default_read, digest_read, 
 use Rattle.ipe_image.specs.Reader.{filled}
 use Rattle.ipe_image.proofs.Told.{read-begins, read-some}
 use Rattle.ipe_image.proofs.Bytes.{bytes-read, length-words_of}
-use Rattle.ipe_image.proofs.Sizes.{few-rule_properties, few-rule_words, fewer-rules, length-property_image, length-records, length-rule_record}
+use Rattle.ipe_image.proofs.Sizes.{digest-bounds, few-rule_properties, few-rule_words, fewer-rules, length-property_image, length-records, length-rule_record}
 use Rattle.ipe_image.proofs.Places.{Complete, complete-facts, default-read, op-below, places}
 
 -- a digest is read back from its words
@@ -36,14 +35,14 @@ digest-back : (digest : Digest) (alg_len len : ℕ) (more : List ℕ) → fits_d
           ((byte_words digest.alg ++ byte_words digest.bytes) ++ more));
     }) digest
 digest-back digest alg_len len more fits alg_is len_is =
-    let both = and_parts _ _ fits in
+    let bounds = digest-bounds digest fits in
     let alg_words = byte_words digest.alg in
     let words = byte_words digest.bytes in
     let spread : (alg_words ++ words) ++ more ≡ alg_words ++ (words ++ more) = append_assoc alg_words words more in
     let alg : bytes_in alg_len ((alg_words ++ words) ++ more) ≡ digest.alg =
     ap (λ (n : ℕ). bytes_in n ((alg_words ++ words) ++ more)) alg_is
     ∙ ap (λ (ws : List ℕ). bytes_in (length digest.alg) ws) spread
-    ∙ bytes-read digest.alg (words ++ more) (and_parts _ _ both.0).1 in
+    ∙ bytes-read digest.alg (words ++ more) bounds.alg in
     let behind : drop (words_for alg_len) ((alg_words ++ words) ++ more) ≡ words ++ more =
     ap (λ (n : ℕ). drop (words_for n) ((alg_words ++ words) ++ more)) alg_is
     ∙ ap (drop (words_for (length digest.alg))) spread
@@ -52,7 +51,7 @@ digest-back digest alg_len len more fits alg_is len_is =
     let bytes : bytes_in len (drop (words_for alg_len) ((alg_words ++ words) ++ more)) ≡ digest.bytes =
     ap (λ (n : ℕ). bytes_in n (drop (words_for alg_len) ((alg_words ++ words) ++ more))) len_is
     ∙ ap (λ (ws : List ℕ). bytes_in (length digest.bytes) ws) behind
-    ∙ bytes-read digest.bytes more (and_parts _ _ both.1).1 in
+    ∙ bytes-read digest.bytes more bounds.bytes in
     ap (λ (a : List ℕ). record {
       alg = a;
       bytes = bytes_in len (drop (words_for alg_len)
@@ -66,9 +65,9 @@ digest-property : (kind alg_len len : ℕ) (digest : Digest) (more : List ℕ) �
     → property_read ((kind + 2 ^ 8 * 0 + 2 ^ 16 * alg_len + 2 ^ 24 * len) ∷
     ((byte_words digest.alg ++ byte_words digest.bytes) ++ more)) ≡ kind_read kind false digest
 digest-property kind alg_len len digest more small alg_is len_is fits =
-    let both = and_parts _ _ fits in
-    let few_alg : length digest.alg ≤ 16 = leb-true _ 16 (and_parts _ _ both.0).0 in
-    let few : length digest.bytes ≤ 64 = leb-true _ 64 (and_parts _ _ both.1).0 in
+    let bounds = digest-bounds digest fits in
+    let few_alg : length digest.alg ≤ 16 = bounds.few_alg in
+    let few : length digest.bytes ≤ 64 = bounds.few in
     let head : ℕ = kind + 2 ^ 8 * 0 + 2 ^ 16 * alg_len + 2 ^ 24 * len in
     let kind_is : head % 256 ≡ kind = omega arith in
     let truth_is : head / 256 % 256 ≡ 0 = omega arith in

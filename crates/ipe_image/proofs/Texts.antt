@@ -13,11 +13,11 @@ use Rattle.ipe_policy.specs.Statement.{RuleParts, op_number, operations, same_op
 use Rattle.ipe_policy.specs.Evaluation.{matches}
 use Rattle.ipe_policy.specs.Spelling.{action_token, op_token, property_token, statement_text}
 use Rattle.line_words.specs.Lines.{joined}
-use Rattle.ipe_image.specs.Parts.{ImageParts}
+use Rattle.ipe_image.specs.Parts.{ImageParts, own_default}
 use Rattle.ipe_image.specs.Image.{property_image, rule_record}
 use Rattle.ipe_image.specs.Reading.{fits_property, fits_rule, image_in}
 use Rattle.ipe_image.specs.Heads.{AreProperties, BeginsWithProperty}
-use Rattle.ipe_image.specs.Decision.{default_found, default_of, first_match_in, match_found, own_default, record_in}
+use Rattle.ipe_image.specs.Decision.{default_found, default_of, first_match_in, match_found, record_in}
 use Rattle.ipe_image.specs.Answer.{IsAnswer}
 use Rattle.ipe_image.specs.declared.hit.Hit.{Hit}
 use Rattle.ipe_image.proofs.Deciders.{record-found, stands}

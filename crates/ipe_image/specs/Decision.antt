@@ -1,5 +1,5 @@
 -- What an image decides.
-use Rattle.std.specs.Prelude.{ℕ, ◌-◌, List, [], Option, Some, None, slice_get, option_and_then}
+use Rattle.std.specs.Prelude.{ℕ, ◌-◌, List, [], Option, Some, None, slice_get}
 use Rattle.std.specs.List.{find, enumerate_from}
 use Rattle.std.specs.Option.{option_map, option_map_or}
 use Rattle.ipe_policy.specs.declared.op.Op.{Op}
@@ -10,18 +10,14 @@ use Rattle.ipe_policy.specs.declared.evaluation.Context.{Context}
 use Rattle.ipe_policy.specs.declared.evaluation.Found.{Found}
 use Rattle.ipe_policy.specs.declared.evaluation.Which.{Which}
 use Rattle.ipe_policy.specs.declared.evaluation.Which.TheVariants.{Rule, OpDefault, GlobalDefault}
-use Rattle.ipe_policy.specs.Statement.{RuleParts, op_number}
+use Rattle.ipe_policy.specs.Statement.{RuleParts}
 use Rattle.ipe_policy.specs.Evaluation.{matches}
-use Rattle.ipe_image.specs.Parts.{ImageParts}
+use Rattle.ipe_image.specs.Parts.{ImageParts, own_default, rule_statement}
 use Rattle.ipe_image.specs.Image.{rule_record}
 
 -- the first rule that matches, with its number in text order from 1
 abbrev pub first_match_in : ImageParts → Op → Context → Option (ℕ × RuleParts)
 first_match_in parts op context = find (matches op context) (enumerate_from 1 parts.rules)
-
--- the default of an operation
-abbrev pub own_default : ImageParts → Op → Option Action
-own_default parts op = option_and_then (λ own. own) (slice_get parts.defaults (op_number op))
 
 -- what a default gives, and what else where there is none
 abbrev pub default_found : Which → Option Action → Option Found → Option Found
@@ -46,10 +42,6 @@ abbrev pub record_in : ImageParts → Which → List ℕ
 record_in parts (Rule number) = option_map_or (λ rule. rule_record number rule) (slice_get parts.rules (number - 1)) []
 record_in parts OpDefault = []
 record_in parts GlobalDefault = []
-
--- a rule as the statement that it is
-abbrev pub rule_statement : RuleParts → Statement
-rule_statement rule = statement.Rule rule.op rule.properties rule.action
 
 -- the statement that gave an operation an action
 abbrev pub statement_by : ImageParts → Op → Action → Which → Option Statement

@@ -1,5 +1,5 @@
 -- What words tell, if they begin with an image.
-use Rattle.std.specs.Prelude.{ℕ, ◌/◌, ◌%◌, ◌^◌, ◌==◌, ◌&&◌, ◌||◌, nat_eq, nat_le, nat_lt, Bool, zero, suc, if◌then◌else◌, List, [], ◌∷◌, length, map, take, drop, slice_get, slice_index, Option, Some, None, is_some}
+use Rattle.std.specs.Prelude.{ℕ, ◌/◌, ◌%◌, ◌^◌, ◌==◌, ◌&&◌, ◌||◌, nat_eq, nat_le, nat_lt, Bool, true, zero, suc, if◌then◌else◌, List, [], ◌∷◌, length, map, take, drop, slice_get, slice_index, Option, Some, None, is_some}
 use Rattle.std.specs.List.{list_all}
 use Rattle.std.specs.Option.{option_and_then, option_map}
 use Rattle.ipe_policy.specs.declared.op.Action.{Action}
@@ -9,10 +9,11 @@ use Rattle.ipe_policy.specs.declared.statement.Property.{Property}
 use Rattle.ipe_policy.specs.declared.statement.Property.TheVariants.{BootVerified, DmverityRoothash, DmveritySignature, FsverityDigest, FsveritySignature}
 use Rattle.ipe_policy.specs.Statement.{RuleParts, operations}
 use Rattle.ipe_policy.specs.Spelling.{property_words, rule_words, words_for}
-use Rattle.line_words.specs.Words.{is_text}
+use Rattle.ipe_policy.specs.Words.{is_alg_name}
+use Rattle.line_words.specs.Words.{is_text, is_word}
 use Rattle.ipe_image.specs.Packing.{bytes_in}
 use Rattle.ipe_image.specs.Parts.{ImageParts}
-use Rattle.ipe_image.specs.Image.{image_of, named_digest, words_used}
+use Rattle.ipe_image.specs.Image.{image_of, words_used}
 
 -- the default of a word, or the action of a number
 abbrev pub default_read : ℕ → Option Action
@@ -79,15 +80,17 @@ decoded words =
 abbrev pub is_byte : ℕ → Bool
 is_byte byte = nat_lt byte 256
 
--- a digest of bytes: a name of at most 16, and a value of at most 64
+-- a digest that a policy may name: the name of an algorithm, and 1 to 64 bytes
 abbrev pub fits_digest : Digest → Bool
-fits_digest digest =
-    (nat_le (length digest.alg) 16 && list_all is_byte digest.alg)
-    && (nat_le (length digest.bytes) 64 && list_all is_byte digest.bytes)
+fits_digest digest = is_alg_name digest.alg && is_word 1 64 is_byte digest.bytes
 
 -- a property's digest, if it has one, fits
 abbrev pub fits_property : Property → Bool
-fits_property property = fits_digest (named_digest property)
+fits_property (BootVerified wanted) = true
+fits_property (DmveritySignature wanted) = true
+fits_property (FsveritySignature wanted) = true
+fits_property (DmverityRoothash digest) = fits_digest digest
+fits_property (FsverityDigest digest) = fits_digest digest
 
 -- at most 16 properties, each of which fits
 abbrev pub fits_rule : RuleParts → Bool

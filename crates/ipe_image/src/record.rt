@@ -1,12 +1,11 @@
-ghost use Rattle.std.specs.Prelude.{◌≡◌, ◌+◌, ◌*◌, ◌≤◌, ◌^◌, [], ◌∷◌, ◌++◌, IsTrue, OnOk, length};
-ghost use Rattle.std.specs.List.{filter_map, flat_map, list_all};
+ghost use Rattle.std.specs.Prelude.{◌≡◌, ◌+◌, ◌*◌, ◌≤◌, ◌^◌, [], ◌∷◌, ◌++◌, OnOk, length};
+ghost use Rattle.std.specs.List.{filter_map, flat_map};
 ghost use Rattle.arrayvec.specs.ArrayVec.{array_vec_len};
-ghost use Rattle.ipe_policy.specs.Spelling.{words_for};
+ghost use Rattle.ipe_policy.specs.Spelling.{property_words, words_for};
 ghost use Rattle.ipe_policy.specs.Statement.{op_number, rule_of};
 ghost use Rattle.ipe_image.specs.Heads.{kind_code};
 ghost use Rattle.ipe_image.specs.Image.{action_number, property_image, records, rule_record, truth_number};
 ghost use Rattle.ipe_image.specs.Packing.{byte_words};
-ghost use Rattle.ipe_image.specs.Reading.{fits_digest, fits_property, fits_rule, is_byte};
 
 use crate::head::{Kind, action_number};
 use crate::packing::word_of;
@@ -21,7 +20,6 @@ type RuleWords = ArrayVec<u64, 176>;
 fn append_bytes(words: &mut RuleWords, bytes: &[u8])
     requires { array_vec_len words.old + words_for (length bytes.now) ≤ 176 }
     ensures words { words.new.items ≡ words.old.items ++ byte_words bytes.now }
-    ensures bytes { IsTrue (list_all is_byte bytes.now) }
 {
     let mut rest = bytes;
     while !rest.is_empty() {
@@ -43,7 +41,7 @@ fn append_digest(words: &mut RuleWords, kind: Kind, digest: &Digest)
     ensures words { words.new.items ≡ words.old.items
         ++ (kind_code kind + 2 ^ 16 * length digest.now.alg + 2 ^ 24 * length digest.now.bytes)
         ∷ (byte_words digest.now.alg ++ byte_words digest.now.bytes) }
-    ensures fits { IsTrue (fits_digest digest.now) }
+    ensures few { words_for (length digest.now.alg) + words_for (length digest.now.bytes) ≤ 10 }
 {
     let alg = digest.alg.as_slice();
     let bytes = digest.bytes.as_slice();
@@ -57,7 +55,7 @@ fn append_digest(words: &mut RuleWords, kind: Kind, digest: &Digest)
 fn append_property(words: &mut RuleWords, property: &Property)
     requires { array_vec_len words.old + 11 ≤ 176 }
     ensures words { words.new.items ≡ words.old.items ++ property_image property.now }
-    ensures fits { IsTrue (fits_property property.now) }
+    ensures few { property_words property.now ≤ 11 }
 {
     match property {
         Property::BootVerified(wanted) => append_truth(words, Kind::BootVerified, *wanted),
@@ -80,7 +78,6 @@ fn property_words(props: &[Property]) -> RuleWords
     requires { length props.now ≤ 16 }
     ensures words { result.items ≡ flat_map property_image props.now }
     ensures few { array_vec_len result ≤ 176 }
-    ensures fit { IsTrue (list_all fits_property props.now) }
 {
     let mut words = ArrayVec::new();
     for property in props {
@@ -109,9 +106,8 @@ fn append_rule(
     props: &Properties,
     action: Action,
 ) -> Result<(), AllocError>
-    ensures words { OnOk result (image.new.items ≡ image.old.items
+    ensures { OnOk result (image.new.items ≡ image.old.items
         ++ rule_record number (record { op = op; properties = props.now; action = action })) }
-    ensures fits { IsTrue (fits_rule (record { op = op; properties = props.now; action = action })) }
 {
     let props = props.as_slice();
     let words = property_words(props);
@@ -123,8 +119,7 @@ fn append_rule(
 /// Puts the records of the rules behind the words of an image.
 pub(crate) fn append_records(image: &mut Vec<u64>, items: &[Statement]) -> Result<(), AllocError>
     requires { length items.now ≤ 1048576 }
-    ensures words { OnOk result (image.new.items ≡ image.old.items ++ records 1 (filter_map rule_of items.now)) }
-    ensures fit { OnOk result (IsTrue (list_all fits_rule (filter_map rule_of items.now))) }
+    ensures { OnOk result (image.new.items ≡ image.old.items ++ records 1 (filter_map rule_of items.now)) }
 {
     let mut number: u32 = 0;
     for item in items {

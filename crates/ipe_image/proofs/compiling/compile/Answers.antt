@@ -1,12 +1,9 @@
 use Rattle.std.proofs.Common.{◌≡◌, ◌∙◌, ◌≤◌, [], List, ℕ, length, Some, true, is_some, ap, sym, subst, arith, append-nil}
-use Rattle.std.specs.List.{filter_map, list_all}
-use Rattle.ipe_policy.specs.declared.statement.Statement.{Statement}
-use Rattle.ipe_policy.specs.Statement.{rule_of}
 use Rattle.ipe_policy.specs.Policy.{IsPolicy, PolicyParts}
 use Rattle.ipe_policy.specs.Spelling.{words_of_image}
 use Rattle.ipe_image.specs.Parts.{ImageParts, parts_of}
 use Rattle.ipe_image.specs.Image.{image_of}
-use Rattle.ipe_image.specs.Reading.{fits_rule, image_in, is_complete}
+use Rattle.ipe_image.specs.Reading.{image_in, is_complete}
 use Rattle.ipe_image.proofs.Places.{complete-facts}
 use Rattle.ipe_image.proofs.Policies.{compiled, parts-complete}
 use Rattle.ipe_image.proofs.Roundtrip.{image-back, image-filled, length-image}
@@ -32,17 +29,14 @@ made c =
     let items = c.args.policy.now.items in
     let same : c.policy.inside.items ≡ items = ap (λ (p : PolicyParts). p.items) c.policy.view_is in
     let slice : c.as_slice-items.result.now ≡ items = c.as_slice-items.ensures ∙ same in
-    let fit : list_all fits_rule (filter_map rule_of items) ≡ true =
-    subst (λ (xs : List Statement). list_all fits_rule
-    (filter_map rule_of xs) ≡ true) slice c.in_ok-append_records.ensures.fit in
     let words : c.image_words-words.result ≡ words_of_image items = c.image_words-words.ensures in
     let narrow : words_of_image items ≤ 4096 = omega arith in
     record {
       complete = parts-complete items c.args.serial
-          (record { policy = subst IsPolicy same c.policy.invariant; rules = fit; few = narrow });
+          (record { policy = subst IsPolicy same c.policy.invariant; few = narrow });
       image = compiled items c.as_slice-items.result.now c.args.serial c.image_words-words.result
           c.in_ok-image.image.items c.append_head.new.image.items c.append_records.new.image.items
-          slice words c.in_ok-image.ensures.items c.in_ok-append_head.ensures c.in_ok-append_records.ensures.words;
+          slice words c.in_ok-image.ensures.items c.in_ok-append_head.ensures c.in_ok-append_records.ensures;
     }
 
 pub invariant_of-result : goal.invariant_of-result

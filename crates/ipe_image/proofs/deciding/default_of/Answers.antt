@@ -5,7 +5,8 @@ use Rattle.ipe_policy.specs.declared.op.Action.{Action}
 use Rattle.ipe_policy.specs.declared.evaluation.Which.TheVariants.{OpDefault, GlobalDefault}
 use Rattle.ipe_image.specs.Parts.{ImageParts}
 use Rattle.ipe_image.specs.Reading.{default_read}
-use Rattle.ipe_image.specs.Decision.{default_found, own_default}
+use Rattle.ipe_image.specs.Parts.{own_default}
+use Rattle.ipe_image.specs.Decision.{default_found}
 use Rattle.ipe_image.specs.Found.{BeginsWithImage}
 use Rattle.ipe_image.proofs.Places.{complete-facts, Places, places, default-read, some-default}
 use Rattle.ipe_image.proofs.deciding.default_of.Goals as goal

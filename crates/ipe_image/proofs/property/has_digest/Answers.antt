@@ -1,23 +1,13 @@
-use Rattle.std.proofs.Common.{◌≡◌, ◌∙◌, ℕ, Bool, true, ◌&&◌, Option, List, length, ap, sym}
-use Rattle.std.specs.List.{list_all}
-use Rattle.std.proofs.lemmas.Bool.{and_parts}
+use Rattle.std.proofs.Common.{◌≡◌, ◌∙◌, ℕ, Bool, true, false, ◌&&◌, Option, List, length, ap, sym}
 use Rattle.ipe_policy.specs.Spelling.{words_for}
 use Rattle.line_words.specs.Words.{is_text}
 use Rattle.ipe_policy.specs.Evaluation.{has_digest}
 use Rattle.ipe_policy.specs.declared.evaluation.Signed.{Signed}
-use Rattle.ipe_policy.specs.declared.statement.Property.{Property}
 use Rattle.ipe_image.specs.declared.head.PropertyHead.{PropertyHead}
 use Rattle.ipe_image.specs.Image.{named_digest}
-use Rattle.ipe_image.specs.Reading.{fits_property, is_byte}
 use Rattle.ipe_image.proofs.Bytes.{length-words_of}
+use Rattle.ipe_image.proofs.Sizes.{property-bounds}
 use Rattle.ipe_image.proofs.property.has_digest.Goals as goal
-
--- the bytes of a property's digest are bytes
-alg-bytes : (named : Property) → fits_property named ≡ true → list_all is_byte (named_digest named).alg ≡ true
-alg-bytes named fits = (and_parts _ _ (and_parts _ _ fits).0).1
-
-digest-bytes : (named : Property) → fits_property named ≡ true → list_all is_byte (named_digest named).bytes ≡ true
-digest-bytes named fits = (and_parts _ _ (and_parts _ _ fits).1).1
 
 pub are_words_of-requires : goal.are_words_of-requires
 are_words_of-requires c =
@@ -42,13 +32,25 @@ returns-then-are_words_of c named w =
     let bytes_len : length (named_digest named).bytes ≡ length c.as_slice-bytes.result.now =
     sym (c.if-bytes-property.false ∙ ap (λ (t : PropertyHead). t.digest_len) w.head_is) in
     let first : true ≡ is_text (named_digest named).alg c.in-Some.signed.digest.alg =
-    c.if-are_words_of.ensures (named_digest named).alg (alg-bytes named w.fits) alg_len w.alg_is
+    c.if-are_words_of.ensures (named_digest named).alg (property-bounds named w.fits).alg alg_len w.alg_is
     ∙ ap (λ (bs : List ℕ). is_text (named_digest named).alg bs) c.as_slice-alg.ensures.bytes in
     let second : c.are_words_of-then-are_words_of.result ≡ is_text
     (named_digest named).bytes c.in-Some.signed.digest.bytes =
     c.are_words_of-then-are_words_of.ensures (named_digest named).bytes
-    (digest-bytes named w.fits) bytes_len w.digest_is
+    (property-bounds named w.fits).bytes bytes_len w.digest_is
     ∙ ap (λ (bs : List ℕ). is_text (named_digest named).bytes bs) c.as_slice-bytes.ensures.bytes in
     second
     ∙ ap (λ (b : Bool). b && is_text (named_digest named).bytes c.in-Some.signed.digest.bytes) first
+    ∙ ap (λ (part : Option Signed). has_digest part (named_digest named)) (sym c.in-Some.is)
+
+pub returns-else-are_words_of : goal.returns-else-are_words_of
+returns-else-are_words_of c named w =
+    let alg_len : length (named_digest named).alg ≡ length c.as_slice-alg.result.now =
+    sym (c.if-alg-property.false ∙ ap (λ (t : PropertyHead). t.alg_len) w.head_is) in
+    let first : c.are_words_of.result ≡ is_text (named_digest named).alg c.in-Some.signed.digest.alg =
+    c.are_words_of.ensures (named_digest named).alg (property-bounds named w.fits).alg alg_len w.alg_is
+    ∙ ap (λ (bs : List ℕ). is_text (named_digest named).alg bs) c.as_slice-alg.ensures.bytes in
+    let none : c.are_words_of.result ≡ false = c.if-are_words_of.false in
+    none
+    ∙ ap (λ (b : Bool). b && is_text (named_digest named).bytes c.in-Some.signed.digest.bytes) (sym none ∙ first)
     ∙ ap (λ (part : Option Signed). has_digest part (named_digest named)) (sym c.in-Some.is)

@@ -1,7 +1,7 @@
 use Rattle.std.proofs.Common.{◌≡◌, ◌∙◌, ◌+◌, ◌-◌, ◌<◌, [], ◌++◌, ◌∷◌, List, ℕ, length, take, ap, arith, length-append, length-drop}
 use Rattle.std.proofs.lemmas.Grind.{common_steps}
 use Rattle.ipe_image.specs.Packing.{byte_words, word_of}
-use Rattle.ipe_image.proofs.Compare.{are-bytes, drop-few, next-bytes}
+use Rattle.ipe_image.proofs.Compare.{drop-few, next-bytes}
 use Rattle.ipe_image.proofs.record.append_bytes.Goals as goal
 
 pub loop-rest-preserved : goal.loop-rest-preserved
@@ -25,6 +25,3 @@ loop-rest-preserved c =
           ∙ same ∙ c.loop-rest.invariant.0,
       omega arith,
     )
-
-pub returns-clause-bytes : goal.returns-clause-bytes
-returns-clause-bytes c = are-bytes c.args.bytes.now c.type_inv.bytes

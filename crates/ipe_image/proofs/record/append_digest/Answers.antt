@@ -1,11 +1,9 @@
-use Rattle.std.proofs.Common.{◌≡◌, ◌∙◌, ◌+◌, ◌≤◌, List, ℕ, length, true, ap, arith, subst, length-append}
+use Rattle.std.proofs.Common.{◌≡◌, ◌∙◌, ◌+◌, ◌≤◌, ℕ, length, ap, arith, length-append}
 use Rattle.std.specs.Prelude.{nat_le}
-use Rattle.std.specs.List.{list_all}
 use borrow.Author.Tests.{leb-true}
-use Rattle.std.proofs.lemmas.Bool.{and_parts, and_from}
+use Rattle.std.proofs.lemmas.Bool.{and_parts}
 use Rattle.ipe_policy.specs.Spelling.{words_for}
 use Rattle.ipe_image.specs.Packing.{byte_words}
-use Rattle.ipe_image.specs.Reading.{is_byte}
 use Rattle.ipe_image.proofs.Bytes.{length-words_of}
 use Rattle.ipe_image.proofs.record.append_digest.Goals as goal
 
@@ -28,10 +26,11 @@ append_bytes-requires-2 c =
     (length c.as_slice-alg.result.now)) c.as_slice-alg.result.now) in
     omega arith
 
-pub returns-clause-fits : goal.returns-clause-fits
-returns-clause-fits c =
-    and_from _ _
-    (and_from _ _ (and_parts _ _ (and_parts _ _ c.as_slice-alg.ensures.rule).0).1 (subst (λ
-    (bs : List ℕ). list_all is_byte bs ≡ true) c.as_slice-alg.ensures.bytes c.append_bytes.ensures.bytes))
-    (and_from _ _ c.as_slice-bytes.ensures.rule (subst (λ
-    (bs : List ℕ). list_all is_byte bs ≡ true) c.as_slice-bytes.ensures.bytes c.append_bytes-2.ensures.bytes))
+pub returns-clause-few : goal.returns-clause-few
+returns-clause-few c =
+    let alg : length c.args.digest.now.alg ≤ 16 =
+    leb-true (length c.args.digest.now.alg) 16 (and_parts (nat_le 1 (length c.args.digest.now.alg)) (nat_le
+    (length c.args.digest.now.alg) 16) (and_parts _ _ c.as_slice-alg.ensures.rule).0).1 in
+    let bytes : length c.args.digest.now.bytes ≤ 64 =
+    leb-true (length c.args.digest.now.bytes) 64 c.as_slice-bytes.ensures.rule in
+    omega arith

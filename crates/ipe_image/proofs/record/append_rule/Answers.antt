@@ -12,8 +12,8 @@ on-ok : {A B : Type 0} (r : Result A B) (new all old image : List ℕ) → new �
 on-ok (Ok _) new all old image e same = e ∙ same
 on-ok (Err _) new all old image e same = tt
 
-pub returns-clause-words : goal.returns-clause-words
-returns-clause-words c =
+pub returns : goal.returns
+returns c =
     let props = c.args.props.now in
     let old = c.args.image.now.items in
     let words : c.property_words-words.result.items ≡ flat_map property_image props =

@@ -1,11 +1,10 @@
-use Rattle.std.proofs.Common.{◌≡◌, ◌∙◌, ◌+◌, ◌<◌, ◌≤◌, ◌++◌, ◌&&◌, Bool, List, ℕ, length, drop, get_or, ap, sym, arith, append_assoc, length-append}
-use Rattle.std.specs.List.{flat_map, list_all}
+use Rattle.std.proofs.Common.{◌≡◌, ◌∙◌, ◌+◌, ◌<◌, ◌≤◌, ◌++◌, List, ℕ, length, drop, get_or, ap, sym, arith, append_assoc, length-append}
+use Rattle.std.specs.List.{flat_map}
 use Rattle.std.proofs.lemmas.List.{at_drop_more}
 use Rattle.ipe_policy.specs.declared.statement.Property.{Property}
 use Rattle.ipe_policy.specs.Spelling.{property_words}
 use Rattle.ipe_image.specs.Image.{property_image}
-use Rattle.ipe_image.specs.Reading.{fits_property}
-use Rattle.ipe_image.proofs.Sizes.{few-property_words, length-property_image}
+use Rattle.ipe_image.proofs.Sizes.{length-property_image}
 use Rattle.ipe_image.proofs.record.property_words.Goals as goal
 
 pub loop-property-preserved : goal.loop-property-preserved
@@ -19,21 +18,16 @@ loop-property-preserved c =
     let image : flat_map property_image (drop i props) ≡ property_image property ++ flat_map property_image more =
     at_drop_more (flat_map property_image) props i property some
     ∙ ap (λ (p : Property). property_image p ++ flat_map property_image more) (sym is) in
-    let fit : list_all fits_property (drop i props) ≡ (fits_property property && list_all fits_property more) =
-    at_drop_more (list_all fits_property) props i property some
-    ∙ ap (λ (p : Property). fits_property p && list_all fits_property more) (sym is) in
     let count : length c.append_property.new.words.items ≡ length c.loop-property.words.items + property_words
     property =
     ap length c.append_property.ensures.words
     ∙ length-append c.loop-property.words.items (property_image property)
     ∙ ap (λ (n : ℕ). length c.loop-property.words.items + n) (length-property_image property) in
-    let few : property_words property ≤ 11 = few-property_words property c.append_property.ensures.fits in
+    let few : property_words property ≤ 11 = c.append_property.ensures.few in
     let room = c.loop-property.invariant.1 in (
       ap (λ (ws : List ℕ). ws ++ flat_map property_image more) c.append_property.ensures.words
           ∙ append_assoc c.loop-property.words.items (property_image property) (flat_map property_image more)
           ∙ ap (λ (ws : List ℕ). c.loop-property.words.items ++ ws) (sym image)
           ∙ c.loop-property.invariant.0,
       omega arith,
-      sym (fit ∙ ap (λ (b : Bool). b && list_all fits_property more) c.append_property.ensures.fits)
-          ∙ c.loop-property.invariant.2,
     )

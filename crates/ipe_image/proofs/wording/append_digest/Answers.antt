@@ -1,10 +1,10 @@
 use Rattle.std.proofs.Common.{◌≡◌, ◌∙◌, ◌++◌, codes, List, ℕ, ap, append_assoc}
 use Rattle.std.specs.Prelude.{OnOk, Result, Ok, Err, is_ok, if◌then◌else◌}
 use Rattle.hex.specs.Hex.{encode_lower}
-use Rattle.std.proofs.lemmas.Bool.{and_parts}
 use Rattle.ipe_image.specs.declared.head.PropertyHead.{PropertyHead}
 use Rattle.ipe_image.specs.Image.{named_digest}
 use Rattle.ipe_image.proofs.Bytes.{bytes-told}
+use Rattle.ipe_image.proofs.Sizes.{property-bounds}
 use Rattle.ipe_image.proofs.wording.append_digest.Goals as goal
 
 -- what was put behind, where memory was there
@@ -25,9 +25,9 @@ returns c named w =
     let alg_len = ap (λ (t : PropertyHead). t.alg_len) w.head_is in
     let len = ap (λ (t : PropertyHead). t.digest_len) w.head_is in
     let name : c.bytes_of-alg.result.items ≡ digest.alg = c.bytes_of-alg.ensures
-    ∙ bytes-told digest.alg _ _ (and_parts _ _ (and_parts _ _ w.fits).0).1 alg_len w.alg_is in
+    ∙ bytes-told digest.alg _ _ (property-bounds named w.fits).alg alg_len w.alg_is in
     let value : c.bytes_of-digest.result.items ≡ digest.bytes = c.bytes_of-digest.ensures
-    ∙ bytes-told digest.bytes _ _ (and_parts _ _ (and_parts _ _ w.fits).1).1 len w.digest_is in
+    ∙ bytes-told digest.bytes _ _ (property-bounds named w.fits).bytes len w.digest_is in
     let hex : c.as_bytes.result.now ≡ encode_lower digest.bytes = c.as_bytes.ensures.value ∙ c.in_ok-hex.ensures
     ∙ ap encode_lower (c.as_slice.ensures.value ∙ value) in
     let alg : c.as_slice-2.result.now ≡ digest.alg = c.as_slice-2.ensures.value ∙ name in

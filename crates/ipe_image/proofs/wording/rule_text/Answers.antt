@@ -12,7 +12,8 @@ use Rattle.ipe_policy.specs.Statement.{RuleParts}
 use Rattle.ipe_policy.specs.Spelling.{action_token, op_token, statement_text}
 use Rattle.ipe_image.specs.Parts.{ImageParts}
 use Rattle.ipe_image.specs.Heads.{AreProperties}
-use Rattle.ipe_image.specs.Decision.{rule_statement, statement_by}
+use Rattle.ipe_image.specs.Parts.{rule_statement}
+use Rattle.ipe_image.specs.Decision.{statement_by}
 use Rattle.ipe_image.proofs.Texts.{IsRuleAnswer, rule-answer, rule-spelled, tokens_text}
 use Rattle.ipe_image.proofs.wording.rule_text.Goals as goal
 
