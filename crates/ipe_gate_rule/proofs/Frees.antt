@@ -176,3 +176,13 @@ calm_out k h seen c ne = subst (λ l. out k l ≤ out k seen) (sym c.1) (law_f k
 
 pub calm_slot : (h seen : List Event) → NoSwitchSince h seen → active_slot h ≡ active_slot seen
 calm_slot h seen c = ap active_slot c.1 ∙ slot-quiet c.0 seen c.2
+
+-- a history goes on from itself, and from what its beginning goes on from
+pub later_same : (h : List Event) → GoesOnFrom h h
+later_same h = ([], refl)
+
+pub later_chain : (a b c : List Event) → GoesOnFrom a b → GoesOnFrom b c → GoesOnFrom a c
+later_chain a b c x y = (x.0 ++ y.0, x.1 ∙ ap (λ l. x.0 ++ l) y.1 ∙ sym (append_assoc x.0 y.0 c))
+
+pub calm_later : (h seen : List Event) → NoSwitchSince h seen → GoesOnFrom h seen
+calm_later h seen c = (c.0, c.1)

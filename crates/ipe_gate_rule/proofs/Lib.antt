@@ -11,3 +11,4 @@ pub mod Whole
 pub mod Claiming
 pub mod Slots
 pub mod Props
+pub mod Images

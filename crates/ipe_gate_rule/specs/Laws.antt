@@ -1,10 +1,10 @@
 -- Laws of histories.
 use Rattle.std.specs.Prelude.{◌≡◌, ◌≢◌, ℕ, zero, suc, ◌+◌, ◌<◌, ◌≤◌, nat_lt, cond, List, ◌++◌}
 use Rattle.ipe_gate_rule.specs.declared.event.Event.{Event}
-use Rattle.ipe_gate_rule.specs.History.{active_slot, held_by, out}
+use Rattle.ipe_gate_rule.specs.History.{active_slot, content, held_by, out}
 use Rattle.ipe_gate_rule.specs.Owners.{NoSwitchSince, own_events}
 use Rattle.ipe_gate_rule.specs.Places.{claims_in, counts_in, InOrder, IsCountdown}
-use Rattle.ipe_gate_rule.specs.Regions.{region}
+use Rattle.ipe_gate_rule.specs.Regions.{BeginsWithImage, region}
 use Rattle.ipe_gate_rule.specs.Legal.{Legal, PassesBelow}
 
 -- the claims of any history stand in the order of their places, no place twice
@@ -33,3 +33,7 @@ abbrev pub ContentsStay : Type 0
 ContentsStay = (more seen : List Event) (p k passes : ℕ) → Legal (more ++ seen) → PassesBelow passes (more ++ seen)
     → p < passes → own_events p (more ++ seen) ≡ own_events p seen → held_by p seen ≡ k → 0 < k
     → region k (more ++ seen) ≡ region k seen
+
+-- in a legal history the region of the active slot begins with an image
+abbrev pub ActiveSlotHasImage : Type 0
+ActiveSlotHasImage = (h : List Event) → Legal h → 0 < active_slot h → BeginsWithImage (λ i. content (active_slot h) i h)

@@ -1,4 +1,4 @@
-ghost use Rattle.ipe_gate_rule.specs.Laws.{ClaimsStandInOrder, ContentsStay, CountsHaveNoGaps, FewSlotsAreOut, OutNeverRises};
+ghost use Rattle.ipe_gate_rule.specs.Laws.{ActiveSlotHasImage, ClaimsStandInOrder, ContentsStay, CountsHaveNoGaps, FewSlotsAreOut, OutNeverRises};
 ghost use Rattle.ipe_gate_rule.specs.Rule.{Kept, OneHistory};
 
 /// Wherever the rule holds, there is one history for all seats. This call and the others here do nothing: their
@@ -25,4 +25,9 @@ pub fn slots_come_free()
 /// The words of a region stay while a pass holds its slot.
 pub fn contents_stay()
     ensures { ContentsStay }
+{}
+
+/// The region of the active slot begins with the image of a policy.
+pub fn active_slot_has_image()
+    ensures { ActiveSlotHasImage }
 {}

@@ -14,7 +14,9 @@ mod rule;
 mod view;
 
 pub use event::Event;
-pub use laws::{claims_in_order, contents_stay, one_history, slots_come_free};
+pub use laws::{
+    active_slot_has_image, claims_in_order, contents_stay, one_history, slots_come_free,
+};
 pub use play::{
     NewPass, TakeIn, Tale, ToCatchUp, ToClaim, ToLook, ToRead, ToReturn, ToStore, ToSwitch,
 };

@@ -1,0 +1,9 @@
+pub mod Keeping
+pub mod Closing
+pub mod Finding
+pub mod Looks
+pub mod Places
+pub mod Placing
+pub mod Sums
+pub mod Reading
+pub mod Counting

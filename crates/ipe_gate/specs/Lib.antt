@@ -1,0 +1,7 @@
+pub mod Slots
+pub mod Seats
+pub mod Claims
+pub mod Switching
+pub mod Placing
+pub mod Meeting
+pub mod Opening
