@@ -5,6 +5,7 @@ use Rattle.std.proofs.lemmas.Bool.{cases_lt, eqb-true, or_cases}
 use Rattle.std.proofs.lemmas.Nat.{div-add-mod'}
 use Rattle.dmv_tree.specs.Blocks.{is_block_size, AreBlocks}
 use Rattle.hash_tree.specs.Chunks.{chunks}
+use Rattle.hash_tree.specs.Hash.{sha256_hash}
 use Rattle.hash_tree.specs.Shape.{IsHashBlockSize}
 use Rattle.hash_tree.specs.Tree.{data_blocks, fan_out}
 use Rattle.hash_tree.proofs.Groups.{whole_sizes}
@@ -30,8 +31,8 @@ at_least size is = size_cases size (λ x. 512 ≤ x) (omega arith) (omega arith)
 pub at_most : (size : ℕ) → IsTrue (is_block_size size) → size ≤ 4096
 at_most size is = size_cases size (λ x. x ≤ 4096) (omega arith) (omega arith) (omega arith) (omega arith) is
 
-pub wide : (size : ℕ) → IsTrue (is_block_size size) → 16 ≤ fan_out size
-wide size is = size_cases size (λ x. 16 ≤ fan_out x) (omega arith) (omega arith) (omega arith) (omega arith) is
+pub wide : (size : ℕ) → IsTrue (is_block_size size) → 16 ≤ fan_out sha256_hash size
+wide size is = size_cases size (λ x. 16 ≤ fan_out sha256_hash x) (omega arith) (omega arith) (omega arith) (omega arith) is
 
 -- bytes of blocks: how many blocks, and at least one
 pub count_of : (bytes size : ℕ) → AreBlocks bytes size → bytes ≡ bytes / size * size
@@ -52,10 +53,10 @@ some_blocks bytes size blocks =
     ]
 
 -- a size that blocks may have, hash blocks may have
-pub hash_size : (size : ℕ) → IsTrue (is_block_size size) → IsHashBlockSize size
+pub hash_size : (size : ℕ) → IsTrue (is_block_size size) → IsHashBlockSize sha256_hash size
 hash_size size is = record {
-  even = size_cases size (λ x. fan_out x * 32 ≡ x) refl refl refl refl is;
-  wide = size_cases size (λ x. 4 ≤ fan_out x) (omega arith) (omega arith) (omega arith) (omega arith) is;
+  even = size_cases size (λ x. fan_out sha256_hash x * sha256_hash.size ≡ x) refl refl refl refl is;
+  wide = size_cases size (λ x. 4 ≤ fan_out sha256_hash x) (omega arith) (omega arith) (omega arith) (omega arith) is;
   small = size_cases size (λ x. x ≤ 4096) (omega arith) (omega arith) (omega arith) (omega arith) is;
 }
 

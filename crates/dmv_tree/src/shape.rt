@@ -1,9 +1,10 @@
 ghost use Rattle.dmv_tree.specs.Blocks.{is_block_size};
-ghost use Rattle.hash_tree.specs.Shape.{IsHeight, blocks_above};
+ghost use Rattle.hash_tree.specs.Hash.{sha256_hash};
+ghost use Rattle.hash_tree.specs.Shape.{height, tree_blocks};
 ghost use Rattle.hash_tree.specs.Tree.{fan_out};
 ghost use Rattle.std.specs.Prelude.{◌≡◌, ◌<◌, ◌≤◌, IsTrue};
 
-use hash_tree::Shape;
+use hash_tree::{HashAlgorithm, Shape};
 
 /// Whether blocks may have this size, in bytes: 512, 1,024, 2,048 or 4,096.
 pub fn is_block_size(size: u64) -> bool
@@ -17,9 +18,10 @@ pub fn layout(blocks: u64, block_size: u32) -> Shape
     requires some { 1 ≤ blocks }
     requires few { blocks ≤ 4096 }
     requires size { IsTrue (is_block_size block_size) }
-    ensures height { IsHeight (fan_out block_size) blocks result.levels }
-    ensures count { result.hash_blocks ≡ blocks_above (fan_out block_size) blocks result.levels }
+    ensures height { result.levels ≡ height (fan_out sha256_hash block_size) blocks }
+    ensures count { result.hash_blocks ≡ tree_blocks (fan_out sha256_hash block_size) blocks }
     ensures fewer { result.hash_blocks < blocks }
+    ensures low { result.levels ≤ 24 }
 {
-    hash_tree::layout(blocks, block_size)
+    hash_tree::layout(blocks, block_size, HashAlgorithm::Sha256)
 }

@@ -1,8 +1,10 @@
 ghost use Rattle.dmv_tree.specs.Blocks.{AreBlocks};
 ghost use Rattle.hash_tree.specs.Chunks.{chunks};
+ghost use Rattle.hash_tree.specs.Hash.{sha256_hash};
 ghost use Rattle.hash_tree.specs.Tree.{root, stored};
 ghost use Rattle.std.specs.Prelude.{◌≡◌, ◌≤◌, length, IfOk};
 
+use hash_tree::{HashAlgorithm, array_of};
 use std::alloc::{AllocError, Global};
 use std::marker::Model;
 
@@ -44,10 +46,17 @@ pub fn build(alloc: Global, image: &[u8], block_size: u32, salt: &[u8]) -> Resul
     requires blocks { AreBlocks (length image.now) block_size }
     requires salt { length salt.now ≤ 256 }
     ensures { IfOk result (λ tree. tree ≡ record {
-      root = root block_size salt.now (chunks block_size image.now);
-      bytes = stored block_size salt.now (chunks block_size image.now);
+      root = root sha256_hash block_size salt.now (chunks block_size image.now);
+      bytes = stored sha256_hash block_size salt.now (chunks block_size image.now);
     }) }
 {
-    let hash_tree::Tree { root, stored } = hash_tree::build(alloc, image, block_size, salt)?;
+    let hash_tree::Tree { root, stored } = hash_tree::build(
+        alloc,
+        image,
+        block_size,
+        salt,
+        HashAlgorithm::Sha256,
+    )?;
+    let root = array_of(root.as_slice());
     Ok(Tree { root, stored })
 }

@@ -3,6 +3,7 @@ ghost use Rattle.dmv_tree.specs.Words.{block_size_of, salt_of};
 ghost use Rattle.std.specs.Prelude.{◌≡◌, ◌≤◌, ◌*◌, length, IfSome, IsTrue};
 
 use arrayvec::ArrayVec;
+use hash_tree::held;
 use std::marker::Model;
 
 /// The salt of a tree: at most 256 bytes.
@@ -48,15 +49,6 @@ impl Salt {
     {
         self.bytes.as_slice()
     }
-}
-
-fn held(bytes: &[u8]) -> ArrayVec<u8, 256>
-    requires { length bytes.now ≤ 256 }
-    ensures { result.items ≡ bytes.now }
-{
-    let mut held = ArrayVec::new();
-    let _fits = held.try_extend_from_slice(bytes);
-    held
 }
 
 /// The size of a block that a word says: 512, 1024, 2048 or 4096.

@@ -3,6 +3,7 @@ use Rattle.std.specs.Prelude.{◌≡◌, ℕ, ◌≤◌, ◌==◌, Bool, IsTrue,
 use Rattle.std.specs.Fmt.{decimal}
 use Rattle.hex.specs.Hex.{decode_of}
 use Rattle.dmv_tree.specs.Blocks.{is_block_size}
+use Rattle.hash_tree.specs.Hash.{sha256_hash}
 use Rattle.dmv_tree.specs.Words.{salt_of}
 use Rattle.dmv_volume.specs.Words.{IsFirstBad, is_name, word_at}
 use Rattle.dmv_volume.specs.declared.table.TableError.{TableError}
@@ -28,7 +29,7 @@ pub record HasLimits (table : TableParts) : Type 0 where
   pub some : 1 ≤ table.blocks
   pub few : table.blocks ≤ 4096
   pub hash_start : table.hash_start ≤ 1048576
-  pub root : length table.root ≡ 32
+  pub root : length table.root ≡ sha256_hash.size
   pub salt : length table.salt ≤ 256
 
 -- these words say this table

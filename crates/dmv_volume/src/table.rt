@@ -2,7 +2,8 @@ ghost use Rattle.dmv_volume.specs.Table.{HasLimits, IsReason, Say};
 ghost use Rattle.dmv_volume.specs.Words.{AreWhole, OneFirstBad, WholeOrBad, WordsFit, seen, word_at, words_of};
 ghost use Rattle.dmv_tree.specs.Blocks.{is_block_size};
 ghost use Rattle.dmv_tree.specs.Words.{salt_of};
-ghost use Rattle.hash_tree.specs.Shape.{IsHeight, blocks_above};
+ghost use Rattle.hash_tree.specs.Hash.{sha256_hash};
+ghost use Rattle.hash_tree.specs.Shape.{tree_blocks};
 ghost use Rattle.hash_tree.specs.Tree.{fan_out};
 ghost use Rattle.hex.specs.Hex.{decode_of};
 ghost use Rattle.std.specs.Fmt.{decimal};
@@ -157,11 +158,12 @@ impl Table {
         self.hash_start
     }
 
-    /// The root that is declared.
-    pub fn root(&self) -> [u8; 32]
-        ensures { result ≡ self.now.root }
+    /// The root that is declared: one digest.
+    pub fn root(&self) -> &[u8]
+        ensures value { result.now ≡ self.now.root }
+        ensures size { length result.now ≡ sha256_hash.size }
     {
-        self.root
+        &self.root
     }
 
     /// The salt, at most 256 bytes.
@@ -180,8 +182,7 @@ impl Table {
 
     /// How many hash blocks there are, in all levels above the data.
     pub fn hash_blocks(&self) -> u64
-        ensures value { (height : ℕ) → IsHeight (fan_out self.now.block_size) self.now.blocks height →
-            result ≡ blocks_above (fan_out self.now.block_size) self.now.blocks height }
+        ensures value { result ≡ tree_blocks (fan_out sha256_hash self.now.block_size) self.now.blocks }
         ensures fewer { result < self.now.blocks }
     {
         layout(self.blocks, self.block_size).hash_blocks

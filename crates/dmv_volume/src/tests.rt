@@ -1,6 +1,4 @@
 ghost use Rattle.blk_device.specs.Contents.{HasAtLeast};
-ghost use Rattle.hash_tree.specs.Shape.{IsHeight};
-ghost use Rattle.hash_tree.specs.Tree.{fan_out};
 ghost use Rattle.std.specs.Prelude.{◌≡◌, IfOk, IsTrue, length};
 
 use super::*;
@@ -61,7 +59,6 @@ fn read<D: Devices>(
     out: &mut [u8],
 ) -> Option<Result<(), VerityError>>
     requires table { volume.old.table ≡ table.now }
-    requires height { IsHeight (fan_out table.now.block_size) table.now.blocks volume.old.levels }
     ensures same { volume.new ≡ record volume.old { path = volume.new.path } }
 {
     let size = u64::from(table.block_size());

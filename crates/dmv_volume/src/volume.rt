@@ -1,10 +1,8 @@
 ghost use Rattle.blk_device.specs.Contents.{HasAtLeast, HasNone};
-ghost use Rattle.dmv_volume.specs.Reading.{OfBoth, held_path, tree_of};
+ghost use Rattle.dmv_volume.specs.Reading.{OfBoth, data_need, hash_need, held_path, tree_of};
 ghost use Rattle.dmv_volume.specs.Table.{HasLimits};
 ghost use Rattle.hash_path.specs.Checked.{FailsAt, IsChecked, IsOfImage, answer_of, failing};
 ghost use Rattle.hash_path.specs.Stored.{HoldsTreeOf};
-ghost use Rattle.hash_tree.specs.Shape.{IsHeight, blocks_above};
-ghost use Rattle.hash_tree.specs.Tree.{fan_out};
 ghost use Rattle.ipe_words.specs.Count.{Rose};
 ghost use Rattle.std.specs.Fork.{slice_chunk};
 ghost use Rattle.std.specs.Prelude.{◌≡◌, ◌+◌, ◌*◌, ◌<◌, ◌≤◌, ◌⊎◌, ℕ, List, Ok, [], length, replicate, slice_index_or, take, IfOk};
@@ -21,7 +19,6 @@ use std::marker::Model;
 #[derive(Debug, Drop)]
 pub struct Volume {
     table: Table,
-    levels: u8,
     path: BlockPath,
 }
 
@@ -30,9 +27,9 @@ impl Model for Volume {
 
     ghost Value = { Attached };
 
-    ghost view = { λ s. record { table = s.table; levels = s.levels; path = s.path.items } };
+    ghost view = { λ s. record { table = s.table; path = s.path.items } };
 
-    ghost invariant = { λ s. IsAttached s.table s.levels s.path };
+    ghost invariant = { λ s. IsAttached s.table s.path };
 }
 
 impl Volume {
@@ -40,19 +37,13 @@ impl Volume {
     pub fn attach(alloc: Global, table: &Table) -> Result<Volume, AllocError>
         ensures table { IfOk result (λ volume. volume.table ≡ table.now) }
         ensures limits { IfOk result (λ volume. HasLimits volume.table) }
-        ensures height { IfOk result (λ volume.
-            IsHeight (fan_out volume.table.block_size) volume.table.blocks volume.levels) }
         ensures path { IfOk result (λ volume. volume.path ≡ []) }
     {
         let size = table.block_size();
         let levels = layout(table.blocks(), size).levels;
         let path = BlockPath::new(alloc, size as usize, usize::from(levels) + 1)?;
         let table = table.copy(alloc)?;
-        Ok(Volume {
-            table,
-            levels,
-            path,
-        })
+        Ok(Volume { table, path })
     }
 
     /// Reads block `i` into `out`, which has the size of a block. The blocks of its path are taken from the devices in
@@ -68,19 +59,16 @@ impl Volume {
     ) -> Result<(), VerityError>
         requires block { i < self.old.table.blocks }
         requires one_block { length out.old ≡ self.old.table.block_size }
-        requires has_data { HasAtLeast (D.contents dev.old) self.old.table.device
-            (self.old.table.blocks * self.old.table.block_size) }
-        requires has_hashes { HasAtLeast (D.contents dev.old) self.old.table.hash_device ((self.old.table.hash_start
-            + blocks_above (fan_out self.old.table.block_size) self.old.table.blocks self.old.levels)
-            * self.old.table.block_size) }
+        requires has_data { HasAtLeast (D.contents dev.old) self.old.table.device (data_need self.old.table) }
+        requires has_hashes { HasAtLeast (D.contents dev.old) self.old.table.hash_device (hash_need self.old.table) }
 
         // No block of the path fails, and the last is in `out`: that of each image with the declared root.
-        ensures ok { OnOk result (IsChecked (tree_of self.old.table self.old.levels) i self.new.path out.new) }
-        ensures image { OnOk result (IsOfImage (tree_of self.old.table self.old.levels) i self.new.path out.new) }
+        ensures ok { OnOk result (IsChecked (tree_of self.old.table) i self.new.path out.new) }
+        ensures image { OnOk result (IsOfImage (tree_of self.old.table) i self.new.path out.new) }
 
         // The last block of the path that was read is the first that fails.
         ensures corrupt { (level b : ℕ) → IsErrOf result (VerityError.Corrupt level b) →
-            FailsAt (tree_of self.old.table self.old.levels) i self.new.path level b }
+            FailsAt (tree_of self.old.table) i self.new.path level b }
 
         // A device answered so.
         ensures missing { IsErrOf result VerityError.Missing → HasNone (D.contents dev.old) self.old.table.device
@@ -89,15 +77,15 @@ impl Volume {
 
         // The path is the front of the one that the devices hold, and unless one failed the answer is what that says.
         ensures held { OfBoth (D.contents dev.old) self.old.table (λ bytes hashes. self.new.path
-            ≡ take (length self.new.path) (held_path self.old.table self.old.levels bytes hashes i)) }
+            ≡ take (length self.new.path) (held_path self.old.table bytes hashes i)) }
         ensures answer { OfBoth (D.contents dev.old) self.old.table (λ bytes hashes.
             (IsErrOf result VerityError.DeviceFault → ⊥) →
-            result ≡ answer_of (failing (tree_of self.old.table self.old.levels) i
-            (held_path self.old.table self.old.levels bytes hashes i))) }
+            result ≡ answer_of (failing (tree_of self.old.table) i
+            (held_path self.old.table bytes hashes i))) }
 
         // Where the devices hold an image and its tree under the root, only a device's failure is an error.
         ensures complete { OfBoth (D.contents dev.old) self.old.table (λ bytes hashes. (image : List (List ℕ)) →
-            HoldsTreeOf (tree_of self.old.table self.old.levels) hashes image →
+            HoldsTreeOf (tree_of self.old.table) hashes image →
             slice_chunk bytes self.old.table.block_size i ≡ slice_index_or image i [] →
             (IsErrOf result VerityError.DeviceFault → ⊥) → result ≡ Ok tt) }
         ensures cleared { OnErr result (out.new ≡ replicate (length out.old) 0) }
@@ -105,7 +93,7 @@ impl Volume {
         ensures never_falls { D.faults dev.old ≤ D.faults dev.new }
         ensures kept { self.new ≡ record self.old { path = self.new.path } }
     {
-        let read = take_path(&self.table, self.levels, &mut self.path, dev, i, out);
+        let read = take_path(&self.table, &mut self.path, dev, i, out);
         if read.is_err() {
             out.fill(0);
         }

@@ -10,27 +10,18 @@ use Rattle.fsv_tree.specs.Blocks.{is_block_size}
 use Rattle.fsv_tree.proofs.Counts.{size_cases}
 use Rattle.fsv_tree.proofs.Files.{root_some}
 use Rattle.hash_path.specs.Checked.{IsOfImage, answer_of, failing}
-use Rattle.hash_path.specs.Stored.{HoldsTreeOf, IsStored, OfBytes, Stored, held_blocks}
+use Rattle.hash_path.specs.Stored.{HoldsTreeOf, IsStored, OfBytes, Stored, held_blocks, levels_of}
 use Rattle.hash_path.proofs.Answering.{front_whole}
 use Rattle.hash_path.proofs.HeldTrees.{held_right}
-use Rattle.hash_path.proofs.Heights.{three_levels}
 use Rattle.hash_path.proofs.Walking.{of_both}
-use Rattle.hash_tree.specs.Shape.{IsHeight}
-use Rattle.hash_tree.specs.Tree.{data_blocks, fan_out}
+use Rattle.hash_tree.specs.Tree.{data_blocks}
 use Rattle.hash_tree.proofs.Bytes.{length-data_blocks}
 use Rattle.hash_tree.proofs.Numbers.{div_ceil_none}
 use Rattle.fsv_file.specs.File.{Attached, IsOfFile, block_size_of, blocks_of, tree_of}
 
--- a file's blocks have three levels above them at most
-pub low : (size n L : ℕ) → IsTrue (is_block_size size) → n ≤ 16384 → 1 ≤ n → IsHeight (fan_out size) n L → L ≤ 3
-low size n L is few some height =
-    let wide : 32 ≤ fan_out size =
-    size_cases size (λ x. 32 ≤ fan_out x) (omega arith) (omega arith) (omega arith) is in
-    three_levels 32 (fan_out size) n L wide (omega arith) some height
-
 -- all of them and the block are the path
 pub whole_path : (told : Option Contents) (tree : Stored) (i : ℕ) (taken : List (List ℕ)) (block : List ℕ) →
-    length taken ≡ tree.levels →
+    length taken ≡ levels_of tree →
     OfBytes told tree.device (λ bytes. taken ≡ take (length taken) (held_blocks tree bytes i)) →
     OfBytes told tree.device (λ bytes.
     taken ++ block ∷ [] ≡ take (length (taken ++ block ∷ [])) (held_blocks tree bytes i ++ block ∷ []))

@@ -5,18 +5,18 @@ use Rattle.fsv_tree.specs.Blocks.{block_salt}
 use Rattle.fsv_tree.specs.Descriptor.{DescriptorParts}
 use Rattle.fsv_tree.specs.File.{file_root}
 use Rattle.hash_tree.specs.Path.{Shown, path}
-use Rattle.hash_tree.specs.Shape.{IsHeight}
-use Rattle.hash_tree.specs.Tree.{data_blocks, fan_out}
+use Rattle.hash_tree.specs.declared.algorithm.HashAlgorithm.TheVariants.{Sha256}
+use Rattle.hash_tree.specs.Hash.{sha256_hash}
+use Rattle.hash_tree.specs.Tree.{data_blocks}
 use Rattle.hash_path.specs.Blocks.{Blocks}
-use Rattle.hash_path.specs.Stored.{Stored, held_blocks}
+use Rattle.hash_path.specs.Stored.{Stored, held_blocks, levels_of}
 
 -- a file whose blocks are checked: its descriptor, the name of the device that has its stored tree, the byte at which
--- the tree begins there, how many levels stand above the data, and the path that the last call took, from the top down
+-- the tree begins there, and the path that the last call took, from the top down
 pub record Attached : Type 0 where
   pub descriptor : DescriptorParts
   pub device : List ℕ
   pub tree_at : ℕ
-  pub levels : ℕ
   pub path : List (List ℕ)
 
 -- the size of a file's blocks, in bytes
@@ -34,7 +34,7 @@ tree_of file = record {
   start = file.tree_at;
   block_size = block_size_of file.descriptor;
   blocks = blocks_of file.descriptor;
-  levels = file.levels;
+  algorithm = Sha256;
   root = file.descriptor.root;
   salt = block_salt file.descriptor.salt;
 }
@@ -51,14 +51,11 @@ IsOfFile file i taken block =
     let salt = file.descriptor.salt in
     (bytes : List ℕ) → length bytes ≡ file.descriptor.size → file_root size salt bytes ≡ file.descriptor.root →
     (block ≡ slice_index_or (data_blocks size bytes) i [])
-    ⊎ Shown (block_salt salt) (path size (block_salt salt) (data_blocks size bytes) i) taken
+    ⊎ Shown sha256_hash (block_salt salt) (path sha256_hash size (block_salt salt) (data_blocks size bytes) i) taken
 
--- what is true of every file whose blocks are checked: its levels are as many as its descriptor says, and there is
--- space for one path and one hash block
+-- what is true of every file whose blocks are checked: there is space for one path and one hash block
 pub record IsAttached (file : Attached) (space : Blocks) (block : List ℕ) : Type 0 where
-  pub height : IsHeight (fan_out (block_size_of file.descriptor)) (blocks_of file.descriptor) file.levels
-  pub low : file.levels ≤ 3
   pub tree_at : file.tree_at ≤ 16777216
   pub size : space.size ≡ block_size_of file.descriptor
-  pub room : space.room ≡ file.levels + 1
+  pub room : space.room ≡ levels_of (tree_of file) + 1
   pub buffer : length block ≡ block_size_of file.descriptor

@@ -1,8 +1,9 @@
 ghost use Rattle.blk_device.specs.Contents.{HasNone};
 ghost use Rattle.fsv_file.specs.File.{IsOfFile, blocks_of, block_size_of, held_path, tree_of};
 ghost use Rattle.hash_path.specs.Checked.{FailsAt, IsChecked, answer_of, failing};
-ghost use Rattle.hash_path.specs.Stored.{HasTree, HoldsTreeOf, IsStored, OfBytes, end_of, held_blocks};
-ghost use Rattle.hash_tree.specs.Shape.{IsHeight};
+ghost use Rattle.hash_path.specs.Stored.{HasTree, HoldsTreeOf, IsStored, OfBytes, end_of, held_blocks, levels_of};
+ghost use Rattle.hash_tree.specs.Hash.{sha256_hash};
+ghost use Rattle.hash_tree.specs.Shape.{height};
 ghost use Rattle.hash_tree.specs.Tree.{data_blocks, fan_out};
 ghost use Rattle.ipe_words.specs.Count.{Rose};
 ghost use Rattle.std.specs.Prelude.{◌≡◌, ◌<◌, ◌≤◌, ◌++◌, ◌∷◌, ℕ, List, Ok, [], length, slice_index_or, take, IfOk, IsErrOf, OnOk};
@@ -10,7 +11,7 @@ ghost use Rattle.std.specs.Prelude.{◌≡◌, ◌<◌, ◌≤◌, ◌++◌, ◌
 use blk_device::{Devices, VerityError};
 use fsv_tree::{BlockSalt, Descriptor};
 use hash_path::{BlockPath, StoredTree, check_data_block, take_hash_blocks};
-use hash_tree::layout;
+use hash_tree::{HashAlgorithm, layout};
 use std::alloc::{AllocError, Global};
 use std::marker::Model;
 
@@ -21,7 +22,6 @@ pub struct FsvFile {
     descriptor: Descriptor,
     device: Vec<u8>,
     tree_at: u64,
-    levels: u8,
     path: BlockPath,
     buffer: Vec<u8>,
 }
@@ -35,7 +35,6 @@ impl Model for FsvFile {
       descriptor = s.descriptor;
       device = s.device.items;
       tree_at = s.tree_at;
-      levels = s.levels;
       path = s.path.items;
     } };
 
@@ -43,7 +42,6 @@ impl Model for FsvFile {
       descriptor = s.descriptor;
       device = s.device.items;
       tree_at = s.tree_at;
-      levels = s.levels;
       path = s.path.items;
     }) s.path s.buffer.items };
 }
@@ -61,8 +59,6 @@ impl FsvFile {
         ensures descriptor { IfOk result (λ file. file.descriptor ≡ descriptor.now) }
         ensures device { IfOk result (λ file. file.device ≡ device.now) }
         ensures tree_at { IfOk result (λ file. file.tree_at ≡ tree_at) }
-        ensures height { IfOk result (λ file.
-            IsHeight (fan_out (block_size_of file.descriptor)) (blocks_of file.descriptor) file.levels) }
         ensures path { IfOk result (λ file. file.path ≡ []) }
     {
         let size = descriptor.block_size();
@@ -74,7 +70,6 @@ impl FsvFile {
             descriptor: descriptor.copy(),
             device,
             tree_at,
-            levels,
             path,
             buffer,
         })
@@ -132,14 +127,15 @@ impl FsvFile {
         ensures never_falls { D.faults dev.old ≤ D.faults dev.new }
         ensures kept { self.new ≡ record self.old { path = self.new.path } }
     {
+        let root = self.descriptor.root();
         let salt = BlockSalt::new(self.descriptor.salt());
         let tree = StoredTree {
             device: &self.device,
             start: self.tree_at,
             block_size: self.descriptor.block_size(),
             blocks: self.descriptor.blocks(),
-            levels: self.levels,
-            root: self.descriptor.root(),
+            algorithm: HashAlgorithm::Sha256,
+            root: &root,
             salt: salt.as_slice(),
         };
         take_path(&tree, &mut self.path, dev, i, &mut self.buffer, block)
@@ -155,12 +151,12 @@ impl FsvFile {
 
 // How many levels stand above a file's blocks: above one block, or none, there are none.
 fn levels_of(descriptor: &Descriptor) -> u8
-    ensures height { IsHeight (fan_out (block_size_of descriptor.now)) (blocks_of descriptor.now) result }
-    ensures low { result ≤ 3 }
+    ensures height { result ≡ height (fan_out sha256_hash (block_size_of descriptor.now)) (blocks_of descriptor.now) }
+    ensures low { result ≤ 24 }
 {
     match descriptor.blocks() {
         0 => 0,
-        blocks => layout(blocks, descriptor.block_size()).levels,
+        blocks => layout(blocks, descriptor.block_size(), HashAlgorithm::Sha256).levels,
     }
 }
 
@@ -177,7 +173,7 @@ fn take_path<D: Devices>(
     requires block { i < tree.now.blocks }
     requires one_block { length block.now ≡ tree.now.block_size }
     requires size { path.old.size ≡ tree.now.block_size }
-    requires room { tree.now.levels < path.old.room }
+    requires room { levels_of tree.now < path.old.room }
     requires buffer { length buffer.old ≡ tree.now.block_size }
     requires has_tree { HasTree (D.contents dev.old) tree.now }
     ensures ok { OnOk result (IsChecked tree.now i path.new.items block.now) }
@@ -193,5 +189,5 @@ fn take_path<D: Devices>(
     ensures long { length buffer.new ≡ length buffer.old }
 {
     let wanted = take_hash_blocks(tree, path, dev, i, buffer)?;
-    check_data_block(tree, path, i, &wanted, block)
+    check_data_block(tree, path, i, wanted.as_slice(), block)
 }

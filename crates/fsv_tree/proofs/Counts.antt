@@ -5,11 +5,11 @@ use Rattle.std.specs.Int.{div_ceil}
 use Rattle.std.proofs.lemmas.Bool.{cases_lt, eqb-true, or_cases}
 use Rattle.std.proofs.lemmas.Nat.{le-div, mul-le}
 use Rattle.std.proofs.Math.Nat.{div-mul-le_self, div-eq_of_lt, pow-zero}
-use Rattle.hash_tree.specs.Shape.{IsHashBlockSize, IsHeight, blocks_above}
+use Rattle.hash_tree.specs.Hash.{sha256_hash}
+use Rattle.hash_tree.specs.Shape.{IsHashBlockSize}
 use Rattle.hash_tree.specs.Tree.{fan_out}
 use Rattle.hash_tree.proofs.Numbers.{div_ceil_is, div_ceil_none}
 use Rattle.fsv_tree.specs.Blocks.{is_block_size}
-use Rattle.fsv_tree.specs.File.{HasHashBlocks}
 
 -- the sizes of blocks, as numbers
 pub size_cases : (size : ℕ) (P : ℕ → Type 0) → P 1024 → P 2048 → P 4096 → IsTrue (is_block_size size) → P size
@@ -22,10 +22,10 @@ size_cases size P a b c is = elim (or_cases _ (eqb size 4096) is) [
 ]
 
 -- a size that blocks may have, hash blocks may have
-pub hash_size : (size : ℕ) → IsTrue (is_block_size size) → IsHashBlockSize size
+pub hash_size : (size : ℕ) → IsTrue (is_block_size size) → IsHashBlockSize sha256_hash size
 hash_size size is = record {
-  even = size_cases size (λ x. fan_out x * 32 ≡ x) refl refl refl is;
-  wide = size_cases size (λ x. 4 ≤ fan_out x) (omega arith) (omega arith) (omega arith) is;
+  even = size_cases size (λ x. fan_out sha256_hash x * sha256_hash.size ≡ x) refl refl refl is;
+  wide = size_cases size (λ x. 4 ≤ fan_out sha256_hash x) (omega arith) (omega arith) (omega arith) is;
   small = size_cases size (λ x. x ≤ 4096) (omega arith) (omega arith) (omega arith) is;
 }
 
@@ -48,13 +48,3 @@ few_blocks bytes size few is =
           ∙ div_ceil_none size (omega arith) in
           omega arith
     ]
-
--- above no blocks there are none
-pub none_above : (h n : ℕ) → n ≡ 0 → HasHashBlocks h n 0
-unfolding blocks_above
-none_above h n none =
-    let height : IsHeight h n 0 = record {
-      holds_all = let below : n - 1 < h ^ 0 = omega (arith, pow-zero h) in div-eq_of_lt below;
-      least = λ fewer below. absurd (omega arith);
-    } in
-    (0, height, refl)

@@ -1,9 +1,10 @@
 -- Files, their roots and their salts.
 use Rattle.std.proofs.Common.{◌≡◌, ℕ, ◌<◌, ◌≤◌, List, [], ◌∷◌, ◌++◌, length, take, drop, replicate, ap, refl, sym, ◌∙◌, arith}
-use Rattle.std.proofs.lemmas.List.{take_at}
+use Rattle.std.proofs.lemmas.List.{length-replicate, take_at}
+use Rattle.hash_tree.specs.Hash.{sha256_hash}
 use Rattle.hash_tree.specs.Tree.{filled, data_blocks, root, stored}
 use Rattle.hash_tree.proofs.Bytes.{data_blocks_none}
-use Rattle.hash_tree.proofs.Levels.{stored_one}
+use Rattle.hash_tree.proofs.Levels.{length-root, stored_one}
 use Rattle.fsv_tree.specs.Blocks.{block_salt}
 use Rattle.fsv_tree.specs.File.{file_root, file_tree}
 use Rattle.fsv_tree.specs.Kept.{IsKept}
@@ -16,19 +17,25 @@ root_none size salt [] none = refl
 root_none size salt (byte ∷ more) none = absurd (omega arith)
 
 pub root_some : (size : ℕ) (salt bytes : List ℕ) → 0 < length bytes →
-    file_root size salt bytes ≡ root size (block_salt salt) (data_blocks size bytes)
+    file_root size salt bytes ≡ root sha256_hash size (block_salt salt) (data_blocks size bytes)
 unfolding file_root
 root_some size salt [] some = absurd (omega arith)
 root_some size salt (byte ∷ more) some = refl
 
+-- a file's root has the size of a digest
+pub length-file_root : (size : ℕ) (salt bytes : List ℕ) → length (file_root size salt bytes) ≡ sha256_hash.size
+unfolding file_root
+length-file_root size salt [] = length-replicate {A = ℕ} 32 0
+length-file_root size salt (byte ∷ more) = length-root sha256_hash size (block_salt salt) (data_blocks size (byte ∷ more))
+
 pub tree_none : (size : ℕ) (salt bytes : List ℕ) → 0 < size → length bytes ≡ 0 → file_tree size salt bytes ≡ []
 unfolding file_tree
 tree_none size salt bytes positive none =
-    ap (λ blocks. stored size (block_salt salt) blocks) (data_blocks_none size bytes positive none)
-    ∙ stored_one size (block_salt salt) [] (omega arith)
+    ap (λ blocks. stored sha256_hash size (block_salt salt) blocks) (data_blocks_none size bytes positive none)
+    ∙ stored_one sha256_hash size (block_salt salt) [] (omega arith)
 
 pub tree_is : (size : ℕ) (salt bytes : List ℕ) →
-    file_tree size salt bytes ≡ stored size (block_salt salt) (data_blocks size bytes)
+    file_tree size salt bytes ≡ stored sha256_hash size (block_salt salt) (data_blocks size bytes)
 unfolding file_tree
 tree_is size salt bytes = refl
 

@@ -1,7 +1,7 @@
 -- What a file's descriptor and its stored tree are.
 use Rattle.std.specs.Prelude.{◌≡◌, ℕ, List, [], ◌∷◌, length, replicate}
 use Rattle.sha2.specs.Sha256.{sha256}
-use Rattle.hash_tree.specs.Shape.{IsHeight, blocks_above}
+use Rattle.hash_tree.specs.Hash.{sha256_hash}
 use Rattle.hash_tree.specs.Tree.{data_blocks, root, stored}
 use Rattle.fsv_tree.specs.Blocks.{log_of, block_salt}
 use Rattle.fsv_tree.specs.Descriptor.{DescriptorParts, spelling}
@@ -10,11 +10,11 @@ use Rattle.fsv_tree.specs.Descriptor.{DescriptorParts, spelling}
 -- over its blocks
 unfoldable pub file_root : ℕ → List ℕ → List ℕ → List ℕ
 file_root size salt [] = replicate 32 0
-file_root size salt (byte ∷ more) = root size (block_salt salt) (data_blocks size (byte ∷ more))
+file_root size salt (byte ∷ more) = root sha256_hash size (block_salt salt) (data_blocks size (byte ∷ more))
 
 -- the stored tree of a file, the highest level first
 unfoldable pub file_tree : ℕ → List ℕ → List ℕ → List ℕ
-file_tree size salt bytes = stored size (block_salt salt) (data_blocks size bytes)
+file_tree size salt bytes = stored sha256_hash size (block_salt salt) (data_blocks size bytes)
 
 -- the descriptor of a file of these bytes, with this size of blocks and this salt
 abbrev pub described : List ℕ → ℕ → List ℕ → DescriptorParts
@@ -28,10 +28,6 @@ described bytes size salt = record {
 -- the file digest: of the descriptor's bytes
 abbrev pub file_digest : DescriptorParts → List ℕ
 file_digest parts = sha256 (spelling parts)
-
--- a tree over n blocks, with h digests in a hash block, has so many hash blocks
-abbrev pub HasHashBlocks : ℕ → ℕ → ℕ → Type 0
-HasHashBlocks h n count = (levels : ℕ) × IsHeight h n levels × (count ≡ blocks_above h n levels)
 
 -- what was measured of a file: its descriptor, and its stored tree
 pub record MeasuredParts : Type 0 where

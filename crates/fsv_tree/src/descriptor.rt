@@ -1,11 +1,14 @@
 ghost use Rattle.fsv_tree.specs.Blocks.{is_block_size, log_of};
 ghost use Rattle.fsv_tree.specs.Descriptor.{IsFirstBreak, IsSound, said_by, spelling};
-ghost use Rattle.fsv_tree.specs.File.{HasHashBlocks, file_digest};
+ghost use Rattle.fsv_tree.specs.File.{file_digest};
+ghost use Rattle.hash_tree.specs.Hash.{sha256_hash};
+ghost use Rattle.hash_tree.specs.Shape.{tree_blocks};
 ghost use Rattle.hash_tree.specs.Tree.{fan_out};
 ghost use Rattle.std.specs.Int.{div_ceil};
 ghost use Rattle.std.specs.Prelude.{◌≡◌, ◌^◌, ◌≤◌, length, replicate, IsTrue, IfOk, IfErr};
 
 use crate::rows::first_break;
+use hash_tree::{HashAlgorithm, layout};
 use sha2::{Digest, Sha256};
 use std::marker::Model;
 
@@ -153,7 +156,8 @@ impl Descriptor {
 
     /// How many hash blocks stand above the file's blocks, in all levels: none above one block, or none.
     pub fn tree_blocks(&self) -> u64
-        ensures count { HasHashBlocks (fan_out (2 ^ self.now.log)) (div_ceil self.now.size (2 ^ self.now.log)) result }
+        ensures count { result
+            ≡ tree_blocks (fan_out sha256_hash (2 ^ self.now.log)) (div_ceil self.now.size (2 ^ self.now.log)) }
         ensures none { div_ceil self.now.size (2 ^ self.now.log) ≤ 1 → result ≡ 0 }
         ensures few { result ≤ 16384 }
     {
@@ -161,7 +165,7 @@ impl Descriptor {
         if blocks == 0 {
             return 0;
         }
-        hash_tree::layout(blocks, self.block_size()).hash_blocks
+        layout(blocks, self.block_size(), HashAlgorithm::Sha256).hash_blocks
     }
 
     /// The root, 32 bytes of SHA-256; of an empty file, zeros.

@@ -3,7 +3,7 @@ ghost use Rattle.fsv_tree.specs.File.{described, file_root, file_tree};
 ghost use Rattle.std.specs.Prelude.{◌≡◌, ◌≤◌, length, IsTrue, IfOk};
 
 use crate::{BlockSalt, Descriptor};
-use hash_tree::Tree;
+use hash_tree::{HashAlgorithm, Tree, array_of, build, held};
 use std::alloc::{AllocError, Global};
 use std::marker::Model;
 
@@ -56,6 +56,7 @@ pub fn measure_bytes(
     }) }
 {
     let Tree { root, stored } = hash_file(alloc, bytes, block_size, salt)?;
+    let root = array_of(root.as_slice());
     Ok(Measured {
         descriptor: Descriptor::new(block_size, salt, bytes.len() as u64, root),
         tree: stored,
@@ -67,14 +68,21 @@ fn hash_file(alloc: Global, bytes: &[u8], block_size: u32, salt: &[u8]) -> Resul
     requires few { length bytes.now ≤ 16777216 }
     requires size { IsTrue (is_block_size block_size) }
     requires salt { length salt.now ≤ 32 }
-    ensures root { IfOk result (λ tree. tree.root ≡ file_root block_size salt.now bytes.now) }
+    ensures root { IfOk result (λ tree. tree.root.items ≡ file_root block_size salt.now bytes.now) }
     ensures stored { IfOk result (λ tree. tree.stored.items ≡ file_tree block_size salt.now bytes.now) }
 {
     if bytes.is_empty() {
         return Ok(Tree {
-            root: [0; 32],
+            root: held(&[0; 32]),
             stored: Vec::new(alloc),
         });
     }
-    hash_tree::build(alloc, bytes, block_size, BlockSalt::new(salt).as_slice())
+    let salt = BlockSalt::new(salt);
+    build(
+        alloc,
+        bytes,
+        block_size,
+        salt.as_slice(),
+        HashAlgorithm::Sha256,
+    )
 }

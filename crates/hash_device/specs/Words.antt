@@ -3,6 +3,7 @@ use Rattle.std.specs.Prelude.{ℕ, List, [], ◌∷◌, length, Option, Some, No
 use Rattle.dmv_tree.specs.Blocks.{AreBlocks}
 use Rattle.dmv_tree.specs.Words.{block_size_of, salt_of}
 use Rattle.hash_tree.specs.Chunks.{chunks}
+use Rattle.hash_tree.specs.Hash.{sha256_hash}
 use Rattle.hash_tree.specs.Tree.{stored}
 use Rattle.ipe_words.specs.Sink.{Appends, AppendsPrefix}
 
@@ -30,7 +31,7 @@ asked_by (size ∷ salt ∷ more ∷ words) = None
 
 -- the hash blocks that are asked for of an image, as they are stored
 abbrev pub hash_blocks_of : Asked → List ℕ → List ℕ
-hash_blocks_of asked image = stored asked.block_size asked.salt (chunks asked.block_size image)
+hash_blocks_of asked image = stored sha256_hash asked.block_size asked.salt (chunks asked.block_size image)
 
 -- where it is told what was read, it was 1 to 4,096 whole blocks, and its hash blocks were written
 abbrev pub WritesHashBlocks : Option Asked → Option (List ℕ) → Option (List ℕ) → Option (List ℕ) → Type 0

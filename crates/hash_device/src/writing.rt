@@ -1,5 +1,6 @@
 ghost use Rattle.dmv_tree.specs.Blocks.{AreBlocks, is_block_size};
 ghost use Rattle.hash_tree.specs.Chunks.{chunks};
+ghost use Rattle.hash_tree.specs.Hash.{sha256_hash};
 ghost use Rattle.hash_tree.specs.Tree.{stored};
 ghost use Rattle.ipe_words.specs.Count.{Rose};
 ghost use Rattle.ipe_words.specs.Sink.{Appends, AppendsPrefix};
@@ -31,7 +32,7 @@ pub fn write_hash_blocks<S: Source, K: Sink>(
     // Done: the image was read to its end, and its stored tree was written.
     ensures done_read { result ≡ Status.Done → IfSome (S.remaining source.old) (λ _. S.remaining source.new ≡ Some []) }
     ensures done { result ≡ Status.Done → IfSome (S.remaining source.old) (λ image. AreBlocks (length image) block_size
-        × Appends (K.written sink.old) (K.written sink.new) (stored block_size salt.now (chunks block_size image))) }
+        × Appends (K.written sink.old) (K.written sink.new) (stored sha256_hash block_size salt.now (chunks block_size image))) }
 
     // Refused: it has no bytes, no whole number of blocks, or too many.
     ensures refused { result ≡ Status.Refused → IfSome (S.remaining source.old) (λ image.
@@ -42,7 +43,7 @@ pub fn write_hash_blocks<S: Source, K: Sink>(
     ensures write_fault { result ≡ Status.WriteFault → Rose (K.faults sink.old) (K.faults sink.new) }
     ensures write_prefix { result ≡ Status.WriteFault → IfSome (S.remaining source.old) (λ image.
         AppendsPrefix (K.written sink.old) (K.written sink.new)
-        (stored block_size salt.now (chunks block_size image))) }
+        (stored sha256_hash block_size salt.now (chunks block_size image))) }
 
     // Without an answer nothing is written.
     ensures unwritten { (result ≡ Status.Refused) ⊎ (result ≡ Status.ReadFault) ⊎ (result ≡ Status.NoMemory) →

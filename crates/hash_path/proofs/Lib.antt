@@ -1,6 +1,5 @@
 mod Joined
 pub mod Places
 pub mod Walking
-pub mod Heights
 pub mod HeldTrees
 pub mod Answering

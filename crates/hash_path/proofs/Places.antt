@@ -6,56 +6,15 @@ use Rattle.std.proofs.lemmas.Nat.{mul-le}
 use Rattle.std.proofs.Math.Nat.{div-mul-le_self, suc-mul}
 use Rattle.blk_device.specs.Contents.{Contents, HasAtLeast, content}
 use Rattle.hash_tree.specs.Shape.{blocks_above, level_blocks}
-use Rattle.hash_tree.specs.Tree.{fan_out}
+use Rattle.hash_tree.proofs.Heights.{above_more, fewer_above}
 use Rattle.hash_tree.proofs.Numbers.{div_below_ceil, div_ceil_is, power_some}
-use Rattle.hash_path.specs.Stored.{HasTree, IsStored, Stored}
-
--- the blocks of one level more
-above_next : (h n k : ℕ) → blocks_above h n (k + 1) ≡ blocks_above h n k + level_blocks h n (k + 1)
-unfolding blocks_above
-above_next h n k = sum_by-map-range_with_len_more (λ x. x) (level_blocks h n) 1 k (k + 1) (omega arith)
-
-pub above_more : (h n k : ℕ) → blocks_above h n (suc k) ≡ blocks_above h n k + level_blocks h n (suc k)
-above_more h n k =
-    let step : k + 1 ≡ suc k = omega arith in
-    subst (λ (x : ℕ). blocks_above h n x ≡ blocks_above h n k + level_blocks h n x) step (above_next h n k)
-
-above_none : (h n : ℕ) → blocks_above h n 0 ≡ 0
-unfolding blocks_above
-above_none h n = refl
-
--- each level has as many blocks as the data at most
-pub level_within : (h n k : ℕ) → 0 < h → 0 < n → level_blocks h n k ≤ n
-level_within h n k positive some =
-    let power = power_some h k positive in
-    omega (
-      arith,
-      div_ceil_is n (h ^ k) power some,
-      div-mul-le_self (n - 1) (h ^ k),
-      mul-le ((n - 1) / h ^ k) 1 ((n - 1) / h ^ k) (h ^ k) (omega arith) (omega arith),
-    )
-
-pub above_within : (h n k : ℕ) → 0 < h → 0 < n → blocks_above h n k ≤ k * n
-above_within h n zero positive some = omega (arith, above_none h n)
-above_within h n (suc k) positive some =
-    omega (
-      arith,
-      above_more h n k,
-      level_within h n (suc k) positive some,
-      above_within h n k positive some,
-      suc-mul k n,
-    )
+use Rattle.hash_path.specs.Stored.{fan_of, HasTree, IsStored, Stored, levels_of}
 
 -- a tree has so few blocks that their places are numbers of 64 bits
 pub few_blocks : (tree : Stored) → IsStored tree →
-    blocks_above (fan_out tree.block_size) tree.blocks tree.levels ≤ 50331648
+    blocks_above (fan_of tree) tree.blocks (levels_of tree) < 16777216
 few_blocks tree is =
-    let h = fan_out tree.block_size in
-    omega (
-      arith,
-      above_within h tree.blocks tree.levels (omega (arith, is.size.wide)) is.some,
-      mul-le tree.levels tree.blocks 3 16777216 is.low is.few,
-    )
+    omega (arith, fewer_above (fan_of tree) tree.blocks is.size.wide is.some, is.few)
 
 -- a block of a level is before the end of the levels from it down
 pub in_level : (h n i first k : ℕ) → 0 < h → i < n → first + i / h ^ suc k + 1 ≤ first + blocks_above h n (suc k)
@@ -83,15 +42,15 @@ at_least_less (Some items) name more less fits has = at_least_of (content name i
 
 -- the device holds the block of a level over block i
 pub block_room : (told : Option Contents) (tree : Stored) (i first level over : ℕ) → IsStored tree →
-    i < tree.blocks → 0 < level → over ≡ i / fan_out tree.block_size ^ level →
-    first + blocks_above (fan_out tree.block_size) tree.blocks level
-    ≡ blocks_above (fan_out tree.block_size) tree.blocks tree.levels →
+    i < tree.blocks → 0 < level → over ≡ i / fan_of tree ^ level →
+    first + blocks_above (fan_of tree) tree.blocks level
+    ≡ blocks_above (fan_of tree) tree.blocks (levels_of tree) →
     HasTree told tree →
     HasAtLeast told tree.device (tree.start + (first + over) * tree.block_size + tree.block_size)
 block_room told tree i first zero over is inside above place whole has = absurd (omega arith)
 block_room told tree i first (suc k) over is inside above place whole has =
-    let h = fan_out tree.block_size in
-    let many = blocks_above h tree.blocks tree.levels in
+    let h = fan_of tree in
+    let many = blocks_above h tree.blocks (levels_of tree) in
     let below = in_level h tree.blocks i first k (omega (arith, is.size.wide)) inside in
     let ends = ends_within (first + over) many tree.block_size (omega (arith, place, below, whole)) in
     at_least_less told tree.device (tree.start + many * tree.block_size)
@@ -100,28 +59,28 @@ block_room told tree i first (suc k) over is inside above place whole has =
 
 -- its number is small
 pub few_before : (tree : Stored) (i first level over : ℕ) → IsStored tree → i < tree.blocks → 0 < level →
-    over ≡ i / fan_out tree.block_size ^ level →
-    first + blocks_above (fan_out tree.block_size) tree.blocks level
-    ≡ blocks_above (fan_out tree.block_size) tree.blocks tree.levels →
-    first + over < 50331648
+    over ≡ i / fan_of tree ^ level →
+    first + blocks_above (fan_of tree) tree.blocks level
+    ≡ blocks_above (fan_of tree) tree.blocks (levels_of tree) →
+    first + over < 16777216
 few_before tree i first zero over is inside above place whole = absurd (omega arith)
 few_before tree i first (suc k) over is inside above place whole =
-    let below = in_level (fan_out tree.block_size) tree.blocks i first k (omega (arith, is.size.wide)) inside in
+    let below = in_level (fan_of tree) tree.blocks i first k (omega (arith, is.size.wide)) inside in
     omega (arith, place, below, few_blocks tree is)
 
 -- the last block's number at a level, and one, is how many blocks the level has
-pub level_is : (tree : Stored) (level fan over : ℕ) → IsStored tree → fan ≡ fan_out tree.block_size →
-    over ≡ (tree.blocks - 1) / fan ^ level → over + 1 ≡ level_blocks (fan_out tree.block_size) tree.blocks level
+pub level_is : (tree : Stored) (level fan over : ℕ) → IsStored tree → fan ≡ fan_of tree →
+    over ≡ (tree.blocks - 1) / fan ^ level → over + 1 ≡ level_blocks (fan_of tree) tree.blocks level
 level_is tree level fan over is wide quotient =
-    let h = fan_out tree.block_size in
+    let h = fan_of tree in
     ap (λ (x : ℕ). x + 1) (quotient ∙ ap (λ (x : ℕ). (tree.blocks - 1) / x ^ level) wide)
     ∙ sym (div_ceil_is tree.blocks (h ^ level) (power_some h level (omega (arith, is.size.wide))) is.some)
 
 -- the next level begins at a small number, too
 pub next_few : (tree : Stored) (first level : ℕ) → IsStored tree → 0 < level →
-    first + blocks_above (fan_out tree.block_size) tree.blocks level
-    ≡ blocks_above (fan_out tree.block_size) tree.blocks tree.levels →
-    first + level_blocks (fan_out tree.block_size) tree.blocks level ≤ 50331648
+    first + blocks_above (fan_of tree) tree.blocks level
+    ≡ blocks_above (fan_of tree) tree.blocks (levels_of tree) →
+    first + level_blocks (fan_of tree) tree.blocks level ≤ 16777216
 next_few tree first zero is above whole = absurd (omega arith)
 next_few tree first (suc k) is above whole =
-    omega (arith, above_more (fan_out tree.block_size) tree.blocks k, few_blocks tree is)
+    omega (arith, above_more (fan_of tree) tree.blocks k, few_blocks tree is)

@@ -6,34 +6,35 @@ use Rattle.std.proofs.lemmas.List.{length-append, take_at}
 use Rattle.std.proofs.lemmas.Slice.Eq.{bytes_eq-Decides}
 use Rattle.std.proofs.Math.Nat.{div-one, pow-zero}
 use Rattle.blk_device.specs.Contents.{Contents, content}
+use Rattle.hash_tree.specs.Hash.{Hash, hash_of}
 use Rattle.hash_tree.specs.Path.{digest_in, first_failing}
 use Rattle.hash_tree.specs.Shape.{blocks_above, level_blocks}
-use Rattle.hash_tree.specs.Tree.{fan_out, salted}
+use Rattle.hash_tree.specs.Tree.{salted}
 use Rattle.hash_path.specs.Checked.{FailsAt, LeadsTo, failing}
-use Rattle.hash_path.specs.Stored.{OfBytes, Stored, held_block, held_blocks, held_from}
-use Rattle.hash_path.proofs.Places.{above_more}
+use Rattle.hash_path.specs.Stored.{fan_of, OfBytes, Stored, held_block, held_blocks, held_from, levels_of}
+use Rattle.hash_tree.proofs.Heights.{above_more}
 
 -- a block that has the digest that is wanted
-right_first : (h : ℕ) (salt wanted : List ℕ) (i : ℕ) (block : List ℕ) (below : List (List ℕ)) →
-    wanted ≡ salted salt block →
-    first_failing h salt wanted i (block ∷ below)
-    ≡ first_failing h salt (digest_in ((i / h ^ (length below - 1)) % h) block) i below
+right_first : (hash : Hash) (h : ℕ) (salt wanted : List ℕ) (i : ℕ) (block : List ℕ) (below : List (List ℕ)) →
+    wanted ≡ salted hash salt block →
+    first_failing hash h salt wanted i (block ∷ below)
+    ≡ first_failing hash h salt (digest_in hash ((i / h ^ (length below - 1)) % h) block) i below
 unfolding first_failing
-right_first h salt wanted i block below is =
-    cond-true (bytes_eq wanted (salted salt block))
-    (first_failing h salt (digest_in ((i / h ^ (length below - 1)) % h) block) i below)
-    (Some (length below, i / h ^ length below)) ((bytes_eq-Decides wanted (salted salt block)).1 is)
+right_first hash h salt wanted i block below is =
+    cond-true (bytes_eq wanted (salted hash salt block))
+    (first_failing hash h salt (digest_in hash ((i / h ^ (length below - 1)) % h) block) i below)
+    (Some (length below, i / h ^ length below)) ((bytes_eq-Decides wanted (salted hash salt block)).1 is)
 
 -- and one that hasn't
-wrong_first : (h : ℕ) (salt wanted : List ℕ) (i : ℕ) (block : List ℕ) (below : List (List ℕ)) →
-    wanted ≢ salted salt block →
-    first_failing h salt wanted i (block ∷ below) ≡ Some (length below, i / h ^ length below)
+wrong_first : (hash : Hash) (h : ℕ) (salt wanted : List ℕ) (i : ℕ) (block : List ℕ) (below : List (List ℕ)) →
+    wanted ≢ salted hash salt block →
+    first_failing hash h salt wanted i (block ∷ below) ≡ Some (length below, i / h ^ length below)
 unfolding first_failing
-wrong_first h salt wanted i block below is =
-    cond-false (bytes_eq wanted (salted salt block))
-    (first_failing h salt (digest_in ((i / h ^ (length below - 1)) % h) block) i below)
+wrong_first hash h salt wanted i block below is =
+    cond-false (bytes_eq wanted (salted hash salt block))
+    (first_failing hash h salt (digest_in hash ((i / h ^ (length below - 1)) % h) block) i below)
     (Some (length below, i / h ^ length below))
-    (false_from_ne_true (bytes_eq wanted (salted salt block)) (λ holds. is ((bytes_eq-Decides wanted (salted salt
+    (false_from_ne_true (bytes_eq wanted (salted hash salt block)) (λ holds. is ((bytes_eq-Decides wanted (salted hash salt
     block)).0 holds)))
 
 -- what a test of two digests says
@@ -49,23 +50,23 @@ wrong_digest wanted found digest is test right =
     ∙ sym test)
 
 -- one block alone
-first_alone : (h : ℕ) (salt wanted : List ℕ) (i : ℕ) (block : List ℕ) →
-    first_failing h salt wanted i (block ∷ []) ≡ cond (bytes_eq wanted (salted salt block)) None (Some (0, i))
+first_alone : (hash : Hash) (h : ℕ) (salt wanted : List ℕ) (i : ℕ) (block : List ℕ) →
+    first_failing hash h salt wanted i (block ∷ []) ≡ cond (bytes_eq wanted (salted hash salt block)) None (Some (0, i))
 unfolding first_failing
-first_alone h salt wanted i block =
-    ap (λ (n : ℕ). cond (bytes_eq wanted (salted salt block)) None (Some (0, n)))
+first_alone hash h salt wanted i block =
+    ap (λ (n : ℕ). cond (bytes_eq wanted (salted hash salt block)) None (Some (0, n)))
     (ap (λ (x : ℕ). i / x) (pow-zero h) ∙ div-one i)
 
 -- before the block of a level is read: the block of the tree at which the level begins, and the digest that is wanted
 pub record AtStep (tree : Stored) (told : Option Contents) (i : ℕ) (path : List (List ℕ)) (level first : ℕ)
     (wanted : List ℕ) : Type 0 where
-  pub count : length path + level ≡ tree.levels
+  pub count : length path + level ≡ levels_of tree
   pub so_far : (rest : List (List ℕ)) → length rest ≡ suc level →
-      failing tree i (path ++ rest) ≡ first_failing (fan_out tree.block_size) tree.salt wanted i rest
+      failing tree i (path ++ rest) ≡ first_failing (hash_of tree.algorithm) (fan_of tree) tree.salt wanted i rest
   pub held : OfBytes told tree.device (λ bytes.
       held_blocks tree bytes i ≡ path ++ held_from tree bytes i first level)
-  pub place : first + blocks_above (fan_out tree.block_size) tree.blocks level
-      ≡ blocks_above (fan_out tree.block_size) tree.blocks tree.levels
+  pub place : first + blocks_above (fan_of tree) tree.blocks level
+      ≡ blocks_above (fan_of tree) tree.blocks (levels_of tree)
 
 found_both : (found : Option (List ℕ)) (P Q R : List ℕ → Type 0) → ((bytes : List ℕ) → P bytes → Q bytes → R bytes) →
     IfSome found (λ bytes. P bytes) → IfSome found (λ bytes. Q bytes) → IfSome found (λ bytes. R bytes)
@@ -81,8 +82,8 @@ of_both (Some items) name P Q R each p q = found_both (content name items) P Q R
 -- the blocks that are held from a level down: that level's, and those below it
 held_more : (tree : Stored) (bytes : List ℕ) (i first k : ℕ) →
     held_from tree bytes i first (suc k)
-    ≡ held_block tree bytes (first + i / fan_out tree.block_size ^ suc k)
-    ∷ held_from tree bytes i (first + level_blocks (fan_out tree.block_size) tree.blocks (suc k)) k
+    ≡ held_block tree bytes (first + i / fan_of tree ^ suc k)
+    ∷ held_from tree bytes i (first + level_blocks (fan_of tree) tree.blocks (suc k)) k
 unfolding held_from
 held_more tree bytes i first k = refl
 
@@ -91,7 +92,7 @@ pub length-held_from : (tree : Stored) (bytes : List ℕ) (i first k : ℕ) → 
 unfolding held_from
 length-held_from tree bytes i first zero = refl
 length-held_from tree bytes i first (suc k) =
-    ap suc (length-held_from tree bytes i (first + level_blocks (fan_out tree.block_size) tree.blocks (suc k)) k)
+    ap suc (length-held_from tree bytes i (first + level_blocks (fan_of tree) tree.blocks (suc k)) k)
 
 -- the front of a list
 front : (held path rest : List (List ℕ)) → held ≡ path ++ rest → path ≡ take (length path) held
@@ -100,15 +101,15 @@ front held path rest is = sym (ap (λ xs. take (length path) xs) is ∙ take_at 
 -- and with the block that was read, too
 longer_read : (tree : Stored) (told : Option Contents) (i : ℕ) (path longer : List (List ℕ)) (k first : ℕ)
     (wanted block : List ℕ) → AtStep tree told i path (suc k) first wanted →
-    OfBytes told tree.device (λ bytes. block ≡ held_block tree bytes (first + i / fan_out tree.block_size ^ suc k)) →
+    OfBytes told tree.device (λ bytes. block ≡ held_block tree bytes (first + i / fan_of tree ^ suc k)) →
     longer ≡ path ++ block ∷ [] →
     OfBytes told tree.device (λ bytes. held_blocks tree bytes i
-    ≡ longer ++ held_from tree bytes i (first + level_blocks (fan_out tree.block_size) tree.blocks (suc k)) k)
+    ≡ longer ++ held_from tree bytes i (first + level_blocks (fan_of tree) tree.blocks (suc k)) k)
 longer_read tree told i path longer k first wanted block at read added =
-    let next = first + level_blocks (fan_out tree.block_size) tree.blocks (suc k) in
+    let next = first + level_blocks (fan_of tree) tree.blocks (suc k) in
     of_both told tree.device
     (λ bytes. held_blocks tree bytes i ≡ path ++ held_from tree bytes i first (suc k))
-    (λ bytes. block ≡ held_block tree bytes (first + i / fan_out tree.block_size ^ suc k))
+    (λ bytes. block ≡ held_block tree bytes (first + i / fan_of tree ^ suc k))
     (λ bytes. held_blocks tree bytes i ≡ longer ++ held_from tree bytes i next k)
     (λ bytes is same.
     let below = held_from tree bytes i next k in
@@ -120,12 +121,12 @@ longer_read tree told i path longer k first wanted block at read added =
 
 pub after_read : (tree : Stored) (told : Option Contents) (i : ℕ) (path longer : List (List ℕ)) (level first : ℕ)
     (wanted block : List ℕ) → AtStep tree told i path level first wanted → 0 < level →
-    OfBytes told tree.device (λ bytes. block ≡ held_block tree bytes (first + i / fan_out tree.block_size ^ level)) →
+    OfBytes told tree.device (λ bytes. block ≡ held_block tree bytes (first + i / fan_of tree ^ level)) →
     longer ≡ path ++ block ∷ [] →
     OfBytes told tree.device (λ bytes. longer ≡ take (length longer) (held_blocks tree bytes i))
 after_read tree told i path longer zero first wanted block at above read added = absurd (omega arith)
 after_read tree told i path longer (suc k) first wanted block at above read added =
-    let next = first + level_blocks (fan_out tree.block_size) tree.blocks (suc k) in
+    let next = first + level_blocks (fan_of tree) tree.blocks (suc k) in
     let held = longer_read tree told i path longer k first wanted block at read added in
     of_both told tree.device
     (λ bytes. held_blocks tree bytes i ≡ longer ++ held_from tree bytes i next k)
@@ -139,19 +140,19 @@ one_more path block = length-append path (block ∷ [])
 
 -- the block fails
 pub fails : (tree : Stored) (told : Option Contents) (i : ℕ) (path longer : List (List ℕ)) (level first : ℕ)
-    (wanted block : List ℕ) → AtStep tree told i path level first wanted → wanted ≢ salted tree.salt block →
+    (wanted block : List ℕ) → AtStep tree told i path level first wanted → wanted ≢ salted (hash_of tree.algorithm) tree.salt block →
     longer ≡ path ++ block ∷ [] →
-    FailsAt tree i longer level (i / fan_out tree.block_size ^ level)
+    FailsAt tree i longer level (i / fan_of tree ^ level)
 fails tree told i path longer level first wanted block at wrong added =
-    let h = fan_out tree.block_size in
-    let count : length path + level ≡ tree.levels = at.count in
+    let h = fan_of tree in
+    let count : length path + level ≡ levels_of tree = at.count in
     record {
       levels_left = omega (arith, one_more path block, ap (λ (xs : List (List ℕ)). length xs) added);
       fails = λ rest long.
           let number : Option (ℕ × ℕ) = Some (level, i / h ^ level) in
           ap (λ xs. failing tree i xs) (ap (λ xs. xs ++ rest) added ∙ append_assoc path (block ∷ []) rest)
           ∙ (at.so_far (block ∷ rest) (ap suc long)
-          ∙ (wrong_first h tree.salt wanted i block rest wrong
+          ∙ (wrong_first (hash_of tree.algorithm) h tree.salt wanted i block rest wrong
           ∙ ap (λ (k : ℕ). Some (k, i / h ^ k)) long));
     }
 
@@ -162,29 +163,29 @@ leads_to tree told i path level first wanted at bottom = record {
   whole = omega (arith, at.count);
   wants = λ block.
       at.so_far (block ∷ []) (ap suc (sym bottom))
-      ∙ first_alone (fan_out tree.block_size) tree.salt wanted i block;
+      ∙ first_alone (hash_of tree.algorithm) (fan_of tree) tree.salt wanted i block;
 }
 
 -- another block doesn't fail
 one_down : (tree : Stored) (told : Option Contents) (i : ℕ) (path longer : List (List ℕ)) (k first : ℕ)
-    (wanted block : List ℕ) → AtStep tree told i path (suc k) first wanted → wanted ≡ salted tree.salt block →
-    OfBytes told tree.device (λ bytes. block ≡ held_block tree bytes (first + i / fan_out tree.block_size ^ suc k)) →
+    (wanted block : List ℕ) → AtStep tree told i path (suc k) first wanted → wanted ≡ salted (hash_of tree.algorithm) tree.salt block →
+    OfBytes told tree.device (λ bytes. block ≡ held_block tree bytes (first + i / fan_of tree ^ suc k)) →
     longer ≡ path ++ block ∷ [] →
-    AtStep tree told i longer k (first + level_blocks (fan_out tree.block_size) tree.blocks (suc k))
-    (digest_in ((i / fan_out tree.block_size ^ k) % fan_out tree.block_size) block)
+    AtStep tree told i longer k (first + level_blocks (fan_of tree) tree.blocks (suc k))
+    (digest_in (hash_of tree.algorithm) ((i / fan_of tree ^ k) % fan_of tree) block)
 one_down tree told i path longer k first wanted block at right read added =
-    let h = fan_out tree.block_size in
+    let h = fan_of tree in
     let n = tree.blocks in
-    let count : length path + suc k ≡ tree.levels = at.count in
-    let place : first + blocks_above h n (suc k) ≡ blocks_above h n tree.levels = at.place in
+    let count : length path + suc k ≡ levels_of tree = at.count in
+    let place : first + blocks_above h n (suc k) ≡ blocks_above h n (levels_of tree) = at.place in
     record {
       count = omega (arith, one_more path block, ap (λ (xs : List (List ℕ)). length xs) added);
       so_far = λ rest long.
           let lower : length rest - 1 ≡ k = omega arith in
           ap (λ xs. failing tree i xs) (ap (λ xs. xs ++ rest) added ∙ append_assoc path (block ∷ []) rest)
           ∙ (at.so_far (block ∷ rest) (ap suc long)
-          ∙ (right_first h tree.salt wanted i block rest right
-          ∙ ap (λ (x : ℕ). first_failing h tree.salt (digest_in ((i / h ^ x) % h) block) i rest) lower));
+          ∙ (right_first (hash_of tree.algorithm) h tree.salt wanted i block rest right
+          ∙ ap (λ (x : ℕ). first_failing (hash_of tree.algorithm) h tree.salt (digest_in (hash_of tree.algorithm) ((i / h ^ x) % h) block) i rest) lower));
       held = longer_read tree told i path longer k first wanted block at read added;
       place = omega (arith, above_more h n k);
     }
@@ -192,18 +193,18 @@ one_down tree told i path longer k first wanted block at right read added =
 -- before the block of the next lower level is read
 pub next_step : (tree : Stored) (told : Option Contents) (i : ℕ) (path longer : List (List ℕ)) (level first next : ℕ)
     (wanted block digest : List ℕ) → AtStep tree told i path level first wanted → 0 < level →
-    wanted ≡ salted tree.salt block →
-    OfBytes told tree.device (λ bytes. block ≡ held_block tree bytes (first + i / fan_out tree.block_size ^ level)) →
-    next ≡ first + level_blocks (fan_out tree.block_size) tree.blocks level →
-    digest ≡ digest_in ((i / fan_out tree.block_size ^ (level - 1)) % fan_out tree.block_size) block →
+    wanted ≡ salted (hash_of tree.algorithm) tree.salt block →
+    OfBytes told tree.device (λ bytes. block ≡ held_block tree bytes (first + i / fan_of tree ^ level)) →
+    next ≡ first + level_blocks (fan_of tree) tree.blocks level →
+    digest ≡ digest_in (hash_of tree.algorithm) ((i / fan_of tree ^ (level - 1)) % fan_of tree) block →
     longer ≡ path ++ block ∷ [] → AtStep tree told i longer (level - 1) next digest
 next_step tree told i path longer zero first next wanted block digest at above right read place is added =
     absurd (omega arith)
 next_step tree told i path longer (suc k) first next wanted block digest at above right read place is added =
-    let h = fan_out tree.block_size in
+    let h = fan_of tree in
     let lower : suc k - 1 ≡ k = omega arith in
-    let same : digest ≡ digest_in ((i / h ^ k) % h) block =
-    is ∙ ap (λ (x : ℕ). digest_in ((i / h ^ x) % h) block) lower in
+    let same : digest ≡ digest_in (hash_of tree.algorithm) ((i / h ^ k) % h) block =
+    is ∙ ap (λ (x : ℕ). digest_in (hash_of tree.algorithm) ((i / h ^ x) % h) block) lower in
     let below = one_down tree told i path longer k first wanted block at right read added in
     subst (λ (x : ℕ). AtStep tree told i longer x next digest) (sym lower)
     (subst (λ (x : ℕ). AtStep tree told i longer k x digest) (sym place)
@@ -211,9 +212,9 @@ next_step tree told i path longer (suc k) first next wanted block digest at abov
 
 -- the block that was read, where the device's contents are the same as before
 pub read_before : (told now : Option Contents) (tree : Stored) (i first level over : ℕ) (block : List ℕ) → now ≡ told →
-    over ≡ i / fan_out tree.block_size ^ level →
+    over ≡ i / fan_of tree ^ level →
     OfBytes now tree.device (λ bytes. block ≡ held_block tree bytes (first + over)) →
-    OfBytes told tree.device (λ bytes. block ≡ held_block tree bytes (first + i / fan_out tree.block_size ^ level))
+    OfBytes told tree.device (λ bytes. block ≡ held_block tree bytes (first + i / fan_of tree ^ level))
 read_before told now tree i first level over block same place read =
     subst (λ (x : ℕ). OfBytes told tree.device (λ bytes. block ≡ held_block tree bytes (first + x))) place
     (subst (λ items. OfBytes items tree.device (λ bytes. block ≡ held_block tree bytes (first + over))) same read)

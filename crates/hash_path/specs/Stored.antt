@@ -2,32 +2,41 @@
 use Rattle.std.specs.Prelude.{◌≡◌, ℕ, zero, suc, ◌+◌, ◌*◌, ◌/◌, ◌^◌, ◌<◌, ◌≤◌, List, [], ◌∷◌, length, take, drop, Option, IfSome, All}
 use Rattle.std.specs.Fork.{slice_chunk}
 use Rattle.blk_device.specs.Contents.{Contents, HasAtLeast, content}
-use Rattle.hash_tree.specs.Shape.{IsHashBlockSize, IsHeight, blocks_above, level_blocks}
+use Rattle.hash_tree.specs.declared.algorithm.HashAlgorithm.{HashAlgorithm}
+use Rattle.hash_tree.specs.Hash.{hash_of}
+use Rattle.hash_tree.specs.Shape.{IsHashBlockSize, height, level_blocks, tree_blocks}
 use Rattle.hash_tree.specs.Tree.{fan_out, root, stored}
 
 -- a hash tree that a device stores: the device's name, the byte at which the tree begins there, the size of a block in
--- bytes, how many blocks the data have, how many levels stand above them, the root and the salt
+-- bytes, how many blocks the data have, the hash function, the root and the salt
 pub record Stored : Type 0 where
   pub device : List ℕ
   pub start : ℕ
   pub block_size : ℕ
   pub blocks : ℕ
-  pub levels : ℕ
+  pub algorithm : HashAlgorithm
   pub root : List ℕ
   pub salt : List ℕ
 
--- what numbers a stored tree has
+-- how many digests a hash block of a stored tree has
+abbrev pub fan_of : Stored → ℕ
+fan_of tree = fan_out (hash_of tree.algorithm) tree.block_size
+
+-- how many levels stand above the data of a stored tree
+abbrev pub levels_of : Stored → ℕ
+levels_of tree = height (fan_of tree) tree.blocks
+
+-- what numbers a stored tree has, and that its root is a digest
 pub record IsStored (tree : Stored) : Type 0 where
-  pub size : IsHashBlockSize tree.block_size
+  pub size : IsHashBlockSize (hash_of tree.algorithm) tree.block_size
   pub some : 1 ≤ tree.blocks
   pub few : tree.blocks ≤ 16777216
-  pub height : IsHeight (fan_out tree.block_size) tree.blocks tree.levels
-  pub low : tree.levels ≤ 3
+  pub root : length tree.root ≡ (hash_of tree.algorithm).size
   pub start : tree.start < 2 ^ 62
 
 -- the byte at which a stored tree ends
 abbrev pub end_of : Stored → ℕ
-end_of tree = tree.start + blocks_above (fan_out tree.block_size) tree.blocks tree.levels * tree.block_size
+end_of tree = tree.start + tree_blocks (fan_of tree) tree.blocks * tree.block_size
 
 -- where the contents are told and the device is there, it has the whole tree
 abbrev pub HasTree : Option Contents → Stored → Type 0
@@ -46,18 +55,18 @@ held_block tree bytes n = slice_chunk (drop tree.start bytes) tree.block_size n
 unfoldable pub held_from : Stored → List ℕ → ℕ → ℕ → ℕ → List (List ℕ)
 held_from tree bytes i first zero = []
 held_from tree bytes i first (suc k) =
-    held_block tree bytes (first + i / fan_out tree.block_size ^ suc k)
-    ∷ held_from tree bytes i (first + level_blocks (fan_out tree.block_size) tree.blocks (suc k)) k
+    held_block tree bytes (first + i / fan_of tree ^ suc k)
+    ∷ held_from tree bytes i (first + level_blocks (fan_of tree) tree.blocks (suc k)) k
 
 -- the hash blocks over block i of the data, from the top level down, as they are held
 abbrev pub held_blocks : Stored → List ℕ → ℕ → List (List ℕ)
-held_blocks tree bytes i = held_from tree bytes i 0 tree.levels
+held_blocks tree bytes i = held_from tree bytes i 0 (levels_of tree)
 
 -- the device's bytes have the stored tree of this image where the tree begins, and the root is the image's
 pub record HoldsTreeOf (tree : Stored) (bytes : List ℕ) (image : List (List ℕ)) : Type 0 where
   pub count : length image ≡ tree.blocks
   pub sizes : All (λ block. length block ≡ tree.block_size) image
-  pub root : root tree.block_size tree.salt image ≡ tree.root
+  pub root : root (hash_of tree.algorithm) tree.block_size tree.salt image ≡ tree.root
   pub stored :
-      take (length (stored tree.block_size tree.salt image)) (drop tree.start bytes)
-      ≡ stored tree.block_size tree.salt image
+      take (length (stored (hash_of tree.algorithm) tree.block_size tree.salt image)) (drop tree.start bytes)
+      ≡ stored (hash_of tree.algorithm) tree.block_size tree.salt image

@@ -22,17 +22,17 @@ impl Model for BlockPath {
 
     ghost view = { λ s. record { items = chunks s.size s.bytes.items; size = s.size; room = s.room } };
 
-    ghost invariant = { λ s. (0 < s.size) × (s.size ≤ 4096) × (s.room ≤ 4) × (length s.bytes.items ≡ s.count * s.size)
+    ghost invariant = { λ s. (0 < s.size) × (s.size ≤ 4096) × (s.room ≤ 32) × (length s.bytes.items ≡ s.count * s.size)
         × (s.count ≤ s.room) × (s.room * s.size ≤ vec_capacity s.bytes) };
 }
 
 impl BlockPath {
-    /// A path with room for so many blocks, at most four, of a size in bytes, at most 4,096, and with none yet. The
+    /// A path with room for so many blocks, at most 32, of a size in bytes, at most 4,096, and with none yet. The
     /// only error is want of memory.
     pub fn new(alloc: Global, size: usize, room: usize) -> Result<BlockPath, AllocError>
         requires some { 0 < size }
         requires size { size ≤ 4096 }
-        requires room { room ≤ 4 }
+        requires room { room ≤ 32 }
         ensures { IfOk result (λ path. path ≡ record { items = []; size = size; room = room }) }
     {
         let bytes = Vec::with_capacity(alloc, room * size)?;
@@ -63,7 +63,7 @@ impl BlockPath {
         }
     }
 
-    /// How many blocks the path has: at most four.
+    /// How many blocks the path has: at most 32.
     pub fn len(&self) -> usize
         ensures { result ≡ length self.now.items }
     {

@@ -1,3 +1,4 @@
+use hash_tree::HashAlgorithm;
 use std::marker::Model;
 
 /// A hash tree that a device stores, and what it is checked against.
@@ -11,10 +12,10 @@ pub struct StoredTree<'a> {
     pub block_size: u32,
     /// How many blocks the data have.
     pub blocks: u64,
-    /// How many levels stand above the data.
-    pub levels: u8,
+    /// The hash function.
+    pub algorithm: HashAlgorithm,
     /// The digest of the highest block.
-    pub root: [u8; 32],
+    pub root: &'a [u8],
     /// What is hashed before each block.
     pub salt: &'a [u8],
 }
@@ -29,8 +30,8 @@ impl<'a> Model for StoredTree<'a> {
       start = t.start;
       block_size = t.block_size;
       blocks = t.blocks;
-      levels = t.levels;
-      root = t.root;
+      algorithm = t.algorithm;
+      root = t.root.now;
       salt = t.salt.now;
     } };
 }

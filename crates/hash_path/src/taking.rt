@@ -1,13 +1,15 @@
 ghost use Rattle.blk_device.specs.Contents.{HasAtLeast, HasNone};
 ghost use Rattle.hash_path.specs.Checked.{FailsAt, IsChecked, LeadsTo};
-ghost use Rattle.hash_path.specs.Stored.{HasTree, IsStored, OfBytes, held_block, held_blocks};
+ghost use Rattle.hash_path.specs.Stored.{HasTree, IsStored, OfBytes, held_block, held_blocks, levels_of};
+ghost use Rattle.hash_tree.specs.Hash.{hash_of};
 ghost use Rattle.hash_tree.specs.Path.{digest_in};
 ghost use Rattle.ipe_words.specs.Count.{Rose};
 ghost use Rattle.std.specs.Prelude.{◌≡◌, ◌+◌, ◌*◌, ◌/◌, ◌^◌, ◌<◌, ◌≤◌, ◌++◌, ◌∷◌, ℕ, [], length, take, IfOk, IsErrOf, OnOk};
 
 use crate::{BlockPath, StoredTree};
+use arrayvec::ArrayVec;
 use blk_device::{Devices, VerityError, read_exact_at};
-use hash_tree::salted_digest;
+use hash_tree::{HashAlgorithm, held, layout};
 
 /// Takes the hash blocks over data block `i`, from the top level down, and says which digest they want of that block:
 /// the root, where no level stands above the data. Each is read through `buffer`, which has the size of a block, and is
@@ -21,14 +23,14 @@ pub fn take_hash_blocks<D: Devices>(
     dev: &mut D,
     i: u64,
     buffer: &mut [u8],
-) -> Result<[u8; 32], VerityError>
+) -> Result<ArrayVec<u8, 64>, VerityError>
     requires tree { IsStored tree.now }
     requires block { i < tree.now.blocks }
     requires size { path.old.size ≡ tree.now.block_size }
-    requires room { tree.now.levels < path.old.room }
+    requires room { levels_of tree.now < path.old.room }
     requires buffer { length buffer.old ≡ tree.now.block_size }
     requires has_tree { HasTree (D.contents dev.old) tree.now }
-    ensures leads { IfOk result (λ wanted. LeadsTo tree.now i path.new.items wanted) }
+    ensures leads { IfOk result (λ wanted. LeadsTo tree.now i path.new.items wanted.items) }
     ensures corrupt { (level b : ℕ) → IsErrOf result (VerityError.Corrupt level b) →
         FailsAt tree.now i path.new.items level b }
     ensures above { (level b : ℕ) → IsErrOf result (VerityError.Corrupt level b) → 0 < level }
@@ -43,21 +45,23 @@ pub fn take_hash_blocks<D: Devices>(
     ensures kept { path.new ≡ record path.old { items = path.new.items } }
     ensures long { length buffer.new ≡ length buffer.old }
 {
-    let fan_out = u64::from(tree.block_size / 32);
+    let fan_out = tree.algorithm.fan_out(tree.block_size);
     path.clear();
-    let mut level = tree.levels;
+    let mut level = layout(tree.blocks, tree.block_size, tree.algorithm).levels;
     let mut first = 0;
-    let mut wanted = tree.root;
+    let mut wanted = held(tree.root);
     while level > 0 {
         let block = over(i, fan_out, level);
         read_hash_block(tree, dev, first + block, buffer)?;
         path.push(buffer);
-        if wanted != salted_digest(tree.salt, buffer) {
+        let digest = tree.algorithm.salted_digest(tree.salt, buffer);
+        if wanted.as_slice() != digest.as_slice() {
             return Err(VerityError::Corrupt { level, block });
         }
         first += over(tree.blocks - 1, fan_out, level) + 1;
         level -= 1;
-        wanted = digest_in(buffer, (over(i, fan_out, level) % fan_out) as usize);
+        let place = (over(i, fan_out, level) % fan_out) as usize;
+        wanted = digest_in(tree.algorithm, buffer, place);
     }
     Ok(wanted)
 }
@@ -68,12 +72,12 @@ pub fn check_data_block(
     tree: &StoredTree,
     path: &mut BlockPath,
     i: u64,
-    wanted: &[u8; 32],
+    wanted: &[u8],
     block: &[u8],
 ) -> Result<(), VerityError>
     requires leads { LeadsTo tree.now i path.old.items wanted.now }
     requires size { length block.now ≡ path.old.size }
-    requires room { tree.now.levels < path.old.room }
+    requires room { levels_of tree.now < path.old.room }
     ensures ok { OnOk result (IsChecked tree.now i path.new.items block.now) }
     ensures corrupt { (level b : ℕ) → IsErrOf result (VerityError.Corrupt level b) →
         FailsAt tree.now i path.new.items level b }
@@ -83,14 +87,14 @@ pub fn check_data_block(
     ensures added { path.new ≡ record path.old { items = path.old.items ++ block.now ∷ [] } }
 {
     path.push(block);
-    if *wanted == salted_digest(tree.salt, block) {
+    if wanted == tree.algorithm.salted_digest(tree.salt, block).as_slice() {
         Ok(())
     } else {
         Err(VerityError::Corrupt { level: 0, block: i })
     }
 }
 
-// Reads the block of a tree that has this number, counted from its first. Three levels have at most 50,331,648.
+// Reads the block of a tree that has this number, counted from its first.
 fn read_hash_block<D: Devices>(
     tree: &StoredTree,
     dev: &mut D,
@@ -98,7 +102,7 @@ fn read_hash_block<D: Devices>(
     out: &mut [u8],
 ) -> Result<(), VerityError>
     requires tree { IsStored tree.now }
-    requires few { number < 50331648 }
+    requires few { number < 16777216 }
     requires size { length out.old ≡ tree.now.block_size }
     requires there { HasAtLeast (D.contents dev.old) tree.now.device
         (tree.now.start + number * tree.now.block_size + tree.now.block_size) }
@@ -116,14 +120,13 @@ fn read_hash_block<D: Devices>(
 }
 
 // Digest number `place` of a hash block.
-fn digest_in(block: &[u8], place: usize) -> [u8; 32]
-    requires { 32 * place + 32 ≤ length block.now }
-    ensures { result ≡ digest_in place block.now }
+fn digest_in(algorithm: HashAlgorithm, block: &[u8], place: usize) -> ArrayVec<u8, 64>
+    requires { (place + 1) * (hash_of algorithm).size ≤ length block.now }
+    ensures { result.items ≡ digest_in (hash_of algorithm) place block.now }
 {
-    let at = 32 * place;
-    let mut digest = [0; 32];
-    digest.copy_from_slice(&block[at..at + 32]);
-    digest
+    let size = algorithm.digest_size();
+    let at = place * size;
+    held(&block[at..at + size])
 }
 
 // The number of the block over block i, so many levels above it.

@@ -1,5 +1,5 @@
 -- Bytes of levels.
-use Rattle.std.proofs.Common.{◌≡◌, ℕ, ◌+◌, ◌-◌, ◌*◌, ◌/◌, ◌<◌, ◌≤◌, min, List, [], ◌∷◌, ◌++◌, length, map, take, drop, replicate, ap, refl, sym, ◌∙◌, arith, inl, inr}
+use Rattle.std.proofs.Common.{◌≡◌, ℕ, zero, suc, ◌+◌, ◌-◌, ◌*◌, ◌/◌, ◌<◌, ◌≤◌, min, List, [], ◌∷◌, ◌++◌, length, map, take, drop, replicate, ap, refl, sym, ◌∙◌, arith, inl, inr}
 use Rattle.std.specs.Int.{div_ceil}
 use Rattle.std.specs.List.{concat}
 use Rattle.std.specs.Prelude.{All}
@@ -8,7 +8,8 @@ use Rattle.std.proofs.lemmas.List.{append-nil, append_assoc, length-append, leng
 use Rattle.std.proofs.lemmas.List.Elements.{All-head, All-tail}
 use Rattle.std.proofs.lemmas.Nat.{div-add-mod', mod_below, div-mul-add, mul-le}
 use Rattle.std.proofs.lemmas.Grind.{div_ceil_times}
-use Rattle.std.proofs.Math.Nat.{div-div-eq-div-mul}
+use Rattle.std.proofs.Math.Nat.{div-div-eq-div-mul, suc-mul, mul_comm}
+use Rattle.hash_tree.specs.Hash.{Hash}
 use Rattle.hash_tree.specs.Chunks.{chunks}
 use Rattle.hash_tree.specs.Shape.{IsHashBlockSize}
 use Rattle.hash_tree.specs.Tree.{salted, filled, data_blocks, fan_out, hash_blocks, root, stored}
@@ -18,11 +19,9 @@ use Rattle.hash_tree.proofs.HashBlocks.{digests_whole, length-concat_same, lengt
 use Rattle.hash_tree.proofs.Levels.{root_one, root_more, stored_one, stored_more}
 
 -- a size of hash blocks, as a number
-pub at_least : (size : ℕ) → IsHashBlockSize size → 128 ≤ size
-at_least size is =
-    let even : fan_out size * 32 ≡ size = is.even in
-    let wide : 4 ≤ fan_out size = is.wide in
-    omega arith
+pub at_least : (hash : Hash) (size : ℕ) → IsHashBlockSize hash size → 4 ≤ size
+at_least hash size is =
+    omega (arith, is.even, mul-le 4 1 (fan_out hash size) hash.size is.wide hash.some)
 
 -- a whole block is full already
 pub filled_whole : (size : ℕ) (block : List ℕ) → length block ≡ size → filled size block ≡ block
@@ -81,8 +80,8 @@ unfolding data_blocks
 length-data_blocks size bytes = length-map (chunks size bytes) (filled size) ∙ length-chunks size bytes
 
 -- the blocks whose digests are done, and the rest
-pub record Hashing (size : ℕ) (salt level done rest : List ℕ) : Type 0 where
-  pub hashed : done ++ concat (map (salted salt) (data_blocks size rest)) ≡ concat (map (salted salt) (data_blocks size level))
+pub record Hashing (hash : Hash) (size : ℕ) (salt level done rest : List ℕ) : Type 0 where
+  pub hashed : done ++ concat (map (salted hash salt) (data_blocks size rest)) ≡ concat (map (salted hash salt) (data_blocks size level))
 
 -- the first chunk of bytes, and what is behind it
 only_chunk : (size : ℕ) (block others : List ℕ) → length others ≡ 0 → length block < size →
@@ -104,11 +103,11 @@ first_chunk size block others short =
     ]
 
 -- one more block
-pub hashing_more : (size : ℕ) (salt level done rest block others : List ℕ) → 0 < size →
-    Hashing size salt level done rest →
+pub hashing_more : (hash : Hash) (size : ℕ) (salt level done rest block others : List ℕ) → 0 < size →
+    Hashing hash size salt level done rest →
     rest ≡ block ++ others → length block ≡ min size (length rest) → 0 < length rest →
-    Hashing size salt level (done ++ salted salt (filled size block)) others
-hashing_more size salt level done rest block others positive before parts short some =
+    Hashing hash size salt level (done ++ salted hash salt (filled size block)) others
+hashing_more hash size salt level done rest block others positive before parts short some =
     let count : length rest ≡ length (block ++ others) = ap length parts in
     let cuts = first_chunk size block others (short ∙ ap (λ (x : ℕ). min size x) count) in
     let cut : data_blocks size rest ≡ filled size block ∷ data_blocks size others =
@@ -117,78 +116,84 @@ hashing_more size salt level done rest block others positive before parts short 
     ∙ (ap (λ xs. filled size xs ∷ data_blocks size (drop size (block ++ others))) cuts.0
     ∙ ap (λ xs. filled size block ∷ data_blocks size xs) cuts.1)) in
     record {
-      hashed = append_assoc done (salted salt (filled size block)) (concat (map (salted salt) (data_blocks size others)))
-          ∙ (ap (λ blocks. done ++ concat (map (salted salt) blocks)) (sym cut) ∙ before.hashed);
+      hashed = append_assoc done (salted hash salt (filled size block)) (concat (map (salted hash salt) (data_blocks size others)))
+          ∙ (ap (λ blocks. done ++ concat (map (salted hash salt) blocks)) (sym cut) ∙ before.hashed);
     }
 
 -- none left
-pub hashing_done : (size : ℕ) (salt level done rest : List ℕ) → 0 < size → Hashing size salt level done rest →
+pub hashing_done : (hash : Hash) (size : ℕ) (salt level done rest : List ℕ) → 0 < size → Hashing hash size salt level done rest →
     length rest ≡ 0 →
-    done ≡ concat (map (salted salt) (data_blocks size level))
-hashing_done size salt level done rest positive before none =
+    done ≡ concat (map (salted hash salt) (data_blocks size level))
+hashing_done hash size salt level done rest positive before none =
     sym (append-nil done)
-    ∙ (ap (λ blocks. done ++ concat (map (salted salt) blocks)) (sym (data_blocks_none size rest positive none))
+    ∙ (ap (λ blocks. done ++ concat (map (salted hash salt) blocks)) (sym (data_blocks_none size rest positive none))
     ∙ before.hashed)
 
 -- the digests of n blocks fill as many blocks as there are groups of them
-scaled : (n h size : ℕ) → 0 < n → 0 < h → h * 32 ≡ size → div_ceil (n * 32) size ≡ div_ceil n h
-scaled n h size some positive same =
-    let first = div_ceil_is (n * 32) size (omega arith) (omega arith) in
+scaled : (n h width size : ℕ) → 0 < n → 0 < h → 1 ≤ width → h * width ≡ size →
+    div_ceil (n * width) size ≡ div_ceil n h
+scaled zero h width size some positive wide same = absurd (omega arith)
+scaled (suc m) h width size some positive wide same =
+    let n = suc m in
+    let product : suc m * width ≡ m * width + width = suc-mul m width in
+    let least = mul-le 1 1 h width positive wide in
+    let first = div_ceil_is (n * width) size (omega arith) (omega arith) in
     let second = div_ceil_is n h positive some in
-    let turned : size ≡ 32 * h = omega arith in
-    let before : n * 32 - 1 ≡ (n - 1) * 32 + 31 = omega arith in
-    let quotient : (n * 32 - 1) / 32 ≡ n - 1 = ap (λ (x : ℕ). x / 32) before
-    ∙ div-mul-add (n - 1) 32 31 (omega arith) in
-    let both : (n * 32 - 1) / size ≡ (n - 1) / h =
-    ap (λ (x : ℕ). (n * 32 - 1) / x) turned ∙ (sym (div-div-eq-div-mul (n * 32 - 1) 32 h)
-    ∙ ap (λ (x : ℕ). x / h) quotient) in
+    let turned : size ≡ width * h = sym same ∙ mul_comm h width in
+    let before : n * width - 1 ≡ m * width + (width - 1) = omega arith in
+    let quotient : (n * width - 1) / width ≡ m = ap (λ (x : ℕ). x / width) before
+    ∙ div-mul-add m width (width - 1) (omega arith) in
+    let back : m ≡ n - 1 = omega arith in
+    let both : (n * width - 1) / size ≡ (n - 1) / h =
+    ap (λ (x : ℕ). (n * width - 1) / x) turned ∙ (sym (div-div-eq-div-mul (n * width - 1) width h)
+    ∙ ap (λ (x : ℕ). x / h) (quotient ∙ back)) in
     omega (arith, first, second, both)
 
 -- digests that are filled up to whole blocks are the hash blocks
-pub hashed_level : (size : ℕ) (salt level done : List ℕ) (full : ℕ) → IsHashBlockSize size → 0 < length level →
-    done ≡ concat (map (salted salt) (data_blocks size level)) →
-    full ≡ div_ceil (div_ceil (length level) size * 32) size * size →
-    take full done ++ replicate (full - length done) 0 ≡ concat (hash_blocks size salt (data_blocks size level))
-hashed_level size salt level done full sizes any is room_is =
-    let h = fan_out size in
+pub hashed_level : (hash : Hash) (size : ℕ) (salt level done : List ℕ) (full : ℕ) → IsHashBlockSize hash size → 0 < length level →
+    done ≡ concat (map (salted hash salt) (data_blocks size level)) →
+    full ≡ div_ceil (div_ceil (length level) size * hash.size) size * size →
+    take full done ++ replicate (full - length done) 0 ≡ concat (hash_blocks hash size salt (data_blocks size level))
+hashed_level hash size salt level done full sizes any is room_is =
+    let h = fan_out hash size in
     let blocks = data_blocks size level in
     let n = div_ceil (length level) size in
-    let positive : 0 < size = omega (arith, at_least size sizes) in
+    let positive : 0 < size = omega (arith, at_least hash size sizes) in
     let wide : 4 ≤ h = sizes.wide in
     let wide_enough : 0 < h = omega arith in
-    let same : h * 32 ≡ size = sizes.even in
+    let same : h * hash.size ≡ size = sizes.even in
     let some : 0 < n = div_ceil_some (length level) size positive any in
     let count : length blocks ≡ n = length-data_blocks size level in
-    let digests : length (map (salted salt) blocks) ≡ n = length-map blocks (salted salt) ∙ count in
-    let bytes : length done ≡ n * 32 = ap length is
-    ∙ (length-concat_same 32 (map (salted salt) blocks) (digests_whole salt blocks)
-    ∙ ap (λ (x : ℕ). x * 32) digests) in
-    let ceiling = scaled n h size some wide_enough same in
+    let digests : length (map (salted hash salt) blocks) ≡ n = length-map blocks (salted hash salt) ∙ count in
+    let bytes : length done ≡ n * hash.size = ap length is
+    ∙ (length-concat_same hash.size (map (salted hash salt) blocks) (digests_whole hash salt blocks)
+    ∙ ap (λ (x : ℕ). x * hash.size) digests) in
+    let ceiling = scaled n h hash.size size some wide_enough hash.some same in
     let room : full ≡ div_ceil n h * size = room_is ∙ ap (λ (x : ℕ). x * size) ceiling in
-    let fits : n * 32 ≤ full = omega (arith, room_is, (div_ceil_times (n * 32) size positive).0) in
-    let target = concat-hash_blocks size salt blocks wide_enough same in
-    let zeros : full - length done ≡ div_ceil (length blocks) h * size - length blocks * 32 =
+    let fits : n * hash.size ≤ full = omega (arith, room_is, (div_ceil_times (n * hash.size) size positive).0) in
+    let target = concat-hash_blocks hash size salt blocks wide_enough same in
+    let zeros : full - length done ≡ div_ceil (length blocks) h * size - length blocks * hash.size =
     ap (λ (x : ℕ). full - x) bytes
-    ∙ (ap (λ (x : ℕ). x - n * 32) room ∙ ap (λ (x : ℕ). div_ceil x h * size - x * 32) (sym count)) in
+    ∙ (ap (λ (x : ℕ). x - n * hash.size) room ∙ ap (λ (x : ℕ). div_ceil x h * size - x * hash.size) (sym count)) in
     ap (λ xs. xs ++ replicate (full - length done) 0) (take_all full done (omega arith))
     ∙ (ap (λ xs. xs ++ replicate (full - length done) 0) is
-    ∙ (ap (λ (x : ℕ). concat (map (salted salt) blocks) ++ replicate x 0) zeros ∙ sym target))
+    ∙ (ap (λ (x : ℕ). concat (map (salted hash salt) blocks) ++ replicate x 0) zeros ∙ sym target))
 
 -- the level above two blocks and more
-pub record IsAbove (size : ℕ) (salt level above : List ℕ) : Type 0 where
+pub record IsAbove (hash : Hash) (size : ℕ) (salt level above : List ℕ) : Type 0 where
   pub some : 0 < length above
   pub fewer : length above < length level
-  pub root_is : root size salt (data_blocks size level) ≡ root size salt (data_blocks size above)
-  pub stored_is : stored size salt (data_blocks size level) ≡ stored size salt (data_blocks size above) ++ above
+  pub root_is : root hash size salt (data_blocks size level) ≡ root hash size salt (data_blocks size above)
+  pub stored_is : stored hash size salt (data_blocks size level) ≡ stored hash size salt (data_blocks size above) ++ above
 
-pub level_above : (size : ℕ) (salt level above : List ℕ) → IsHashBlockSize size → size < length level →
-    above ≡ concat (hash_blocks size salt (data_blocks size level)) → IsAbove size salt level above
-level_above size salt level above sizes more is =
-    let h = fan_out size in
+pub level_above : (hash : Hash) (size : ℕ) (salt level above : List ℕ) → IsHashBlockSize hash size → size < length level →
+    above ≡ concat (hash_blocks hash size salt (data_blocks size level)) → IsAbove hash size salt level above
+level_above hash size salt level above sizes more is =
+    let h = fan_out hash size in
     let blocks = data_blocks size level in
     let n = div_ceil (length level) size in
-    let next = hash_blocks size salt blocks in
-    let positive : 0 < size = omega (arith, at_least size sizes) in
+    let next = hash_blocks hash size salt blocks in
+    let positive : 0 < size = omega (arith, at_least hash size sizes) in
     let wide : 4 ≤ h = sizes.wide in
     let many : 2 ≤ h = omega arith in
     let ceiling : n ≡ (length level - 1) / size + 1 = div_ceil_is (length level) size positive (omega arith) in
@@ -203,35 +208,35 @@ level_above size salt level above sizes more is =
     let two_of : 2 ≤ n = omega arith in
     let count : length blocks ≡ n = length-data_blocks size level in
     let two : 2 ≤ length blocks = omega arith in
-    let few : length next ≡ div_ceil n h = length-hash_blocks size salt blocks
+    let few : length next ≡ div_ceil n h = length-hash_blocks hash size salt blocks
     ∙ ap (λ (x : ℕ). div_ceil x h) count in
     let less : length next < n = omega (arith, few, div_ceil_less n h many two_of) in
     let not_none : 0 < length next = omega (arith, few, div_ceil_some n h (omega arith) (omega arith)) in
     let bytes : length above ≡ length next * size =
-    ap length is ∙ length-concat_same size next (hash_blocks_sizes size salt blocks) in
+    ap length is ∙ length-concat_same size next (hash_blocks_sizes hash size salt blocks) in
     let order : length next * size ≤ (length level - 1) / size * size =
     mul-le (length next) size ((length level - 1) / size) size (omega arith) (omega arith) in
     let least : 1 * size ≤ length next * size = mul-le 1 size (length next) size (omega arith) (omega arith) in
     let cut : data_blocks size above ≡ next =
-    data_blocks_whole size above next positive is (hash_blocks_sizes size salt blocks) in
+    data_blocks_whole size above next positive is (hash_blocks_sizes hash size salt blocks) in
     record {
       some = omega arith;
       fewer = omega (arith, split);
-      root_is = root_more size salt blocks many two ∙ ap (λ groups. root size salt groups) (sym cut);
-      stored_is = stored_more size salt blocks many two
-          ∙ (ap (λ groups. stored size salt groups ++ concat next) (sym cut)
-          ∙ ap (λ xs. stored size salt (data_blocks size above) ++ xs) (sym is));
+      root_is = root_more hash size salt blocks many two ∙ ap (λ groups. root hash size salt groups) (sym cut);
+      stored_is = stored_more hash size salt blocks many two
+          ∙ (ap (λ groups. stored hash size salt groups ++ concat next) (sym cut)
+          ∙ ap (λ xs. stored hash size salt (data_blocks size above) ++ xs) (sym is));
     }
 
 -- the level that is one block
-pub root_of_one : (size : ℕ) (salt level : List ℕ) → 0 < length level → length level ≤ size →
-    root size salt (data_blocks size level) ≡ salted salt (filled size level)
-root_of_one size salt level some within =
-    ap (λ groups. root size salt groups) (data_blocks_one size level some within)
-    ∙ root_one size salt (filled size level ∷ []) (omega arith)
+pub root_of_one : (hash : Hash) (size : ℕ) (salt level : List ℕ) → 0 < length level → length level ≤ size →
+    root hash size salt (data_blocks size level) ≡ salted hash salt (filled size level)
+root_of_one hash size salt level some within =
+    ap (λ groups. root hash size salt groups) (data_blocks_one size level some within)
+    ∙ root_one hash size salt (filled size level ∷ []) (omega arith)
 
-pub stored_of_one : (size : ℕ) (salt level : List ℕ) → 0 < length level → length level ≤ size →
-    stored size salt (data_blocks size level) ≡ []
-stored_of_one size salt level some within =
-    ap (λ groups. stored size salt groups) (data_blocks_one size level some within)
-    ∙ stored_one size salt (filled size level ∷ []) (omega arith)
+pub stored_of_one : (hash : Hash) (size : ℕ) (salt level : List ℕ) → 0 < length level → length level ≤ size →
+    stored hash size salt (data_blocks size level) ≡ []
+stored_of_one hash size salt level some within =
+    ap (λ groups. stored hash size salt groups) (data_blocks_one size level some within)
+    ∙ stored_one hash size salt (filled size level ∷ []) (omega arith)

@@ -7,9 +7,9 @@ use Rattle.std.proofs.lemmas.Bool.{cases_lt}
 use Rattle.std.proofs.lemmas.List.{append-nil, append_assoc, drop-drop, length-drop, length-take, length-append, length-map, length-replicate, take_at, drop_at, take-append-drop, get_or-map, get_or-take, get_or-drop}
 use Rattle.std.proofs.lemmas.List.Elements.{All-head, All-tail, All-take, All-drop, All-map, All-from_get_or}
 use Rattle.std.proofs.lemmas.List.Folds.{concat-append}
-use Rattle.std.proofs.lemmas.Nat.{div-add-mod', mod_below}
+use Rattle.std.proofs.lemmas.Nat.{div-add-mod', mod_below, mul-le}
 use Rattle.std.proofs.Math.Nat.{suc-mul, mul-div-le}
-use Rattle.sha2.proofs.Facts256.{length-sha256}
+use Rattle.hash_tree.specs.Hash.{Hash}
 use Rattle.hash_tree.specs.Chunks.{chunks}
 use Rattle.hash_tree.specs.Tree.{salted, filled, fan_out, hash_blocks}
 use Rattle.hash_tree.specs.Path.{digest_in}
@@ -34,52 +34,53 @@ length-concat_same width (part ∷ parts) all =
     let more = length-concat_same width parts (All-tail (λ p. length p ≡ width) part parts all) in
     omega (arith, more, length-append part (concat parts), suc-mul (length parts) width)
 
--- the digests of a level have 32 bytes each
-pub digests_whole : (salt : List ℕ) (blocks : List (List ℕ)) →
-    All (λ digest. length digest ≡ 32) (map (salted salt) blocks)
-digests_whole salt blocks = All-map (λ digest. length digest ≡ 32) (salted salt) blocks (λ k d within. length-sha256
-    (salt ++ get_or blocks k d))
+-- the digests of a level have one size
+pub digests_whole : (hash : Hash) (salt : List ℕ) (blocks : List (List ℕ)) →
+    All (λ digest. length digest ≡ hash.size) (map (salted hash salt) blocks)
+digests_whole hash salt blocks = All-map (λ digest. length digest ≡ hash.size) (salted hash salt) blocks (λ k d within.
+    hash.sized (salt ++ get_or blocks k d))
 
 -- how many hash blocks there are
-pub length-hash_blocks : (size : ℕ) (salt : List ℕ) (blocks : List (List ℕ)) →
-    length (hash_blocks size salt blocks) ≡ div_ceil (length blocks) (fan_out size)
+pub length-hash_blocks : (hash : Hash) (size : ℕ) (salt : List ℕ) (blocks : List (List ℕ)) →
+    length (hash_blocks hash size salt blocks) ≡ div_ceil (length blocks) (fan_out hash size)
 unfolding hash_blocks
-length-hash_blocks size salt blocks =
-    length-map (chunks (fan_out size) (map (salted salt) blocks)) (λ group. filled size (concat group))
-    ∙ (length-chunks (fan_out size) (map (salted salt) blocks)
-    ∙ ap (λ (x : ℕ). div_ceil x (fan_out size)) (length-map blocks (salted salt)))
+length-hash_blocks hash size salt blocks =
+    length-map (chunks (fan_out hash size) (map (salted hash salt) blocks)) (λ group. filled size (concat group))
+    ∙ (length-chunks (fan_out hash size) (map (salted hash salt) blocks)
+    ∙ ap (λ (x : ℕ). div_ceil x (fan_out hash size)) (length-map blocks (salted hash salt)))
 
 -- hash block number k
-pub get_or-hash_blocks : (size : ℕ) (salt : List ℕ) (blocks : List (List ℕ)) (k : ℕ) (d : List ℕ) →
-    k < length (hash_blocks size salt blocks) →
-    get_or (hash_blocks size salt blocks) k d ≡ filled size (concat (take (fan_out size) (drop (k * fan_out size) (map
-    (salted salt) blocks))))
+pub get_or-hash_blocks : (hash : Hash) (size : ℕ) (salt : List ℕ) (blocks : List (List ℕ)) (k : ℕ) (d : List ℕ) →
+    k < length (hash_blocks hash size salt blocks) →
+    get_or (hash_blocks hash size salt blocks) k d ≡ filled size (concat (take (fan_out hash size) (drop (k * fan_out hash size) (map
+    (salted hash salt) blocks))))
 unfolding hash_blocks
-get_or-hash_blocks size salt blocks k d within =
-    let groups = chunks (fan_out size) (map (salted salt) blocks) in
+get_or-hash_blocks hash size salt blocks k d within =
+    let groups = chunks (fan_out hash size) (map (salted hash salt) blocks) in
     let inside : k < length groups = omega (arith, length-map groups (λ group. filled size (concat group))) in
     get_or-map (λ group. filled size (concat group)) groups k [] d inside
-    ∙ ap (λ group. filled size (concat group)) (get_or-chunks (fan_out size) (map (salted salt) blocks) k [] inside)
+    ∙ ap (λ group. filled size (concat group)) (get_or-chunks (fan_out hash size) (map (salted hash salt) blocks) k [] inside)
 
 -- the digests of a group fit a hash block
-group_fits : (size : ℕ) (salt : List ℕ) (blocks : List (List ℕ)) (k : ℕ) →
-    length (concat (take (fan_out size) (drop k (map (salted salt) blocks)))) ≤ size
-group_fits size salt blocks k =
-    let digests = map (salted salt) blocks in
-    let group = take (fan_out size) (drop k digests) in
-    let whole = All-take (λ digest. length digest ≡ 32) (fan_out size) (drop k digests)
-    (All-drop (λ digest. length digest ≡ 32) k digests (digests_whole salt blocks)) in
-    let bytes = length-concat_same 32 group whole in
-    let few = length-take (fan_out size) (drop k digests) in
-    omega (arith, bytes, few, mul-div-le size 32)
+group_fits : (hash : Hash) (size : ℕ) (salt : List ℕ) (blocks : List (List ℕ)) (k : ℕ) →
+    length (concat (take (fan_out hash size) (drop k (map (salted hash salt) blocks)))) ≤ size
+group_fits hash size salt blocks k =
+    let digests = map (salted hash salt) blocks in
+    let group = take (fan_out hash size) (drop k digests) in
+    let whole = All-take (λ digest. length digest ≡ hash.size) (fan_out hash size) (drop k digests)
+    (All-drop (λ digest. length digest ≡ hash.size) k digests (digests_whole hash salt blocks)) in
+    let bytes = length-concat_same hash.size group whole in
+    let few = length-take (fan_out hash size) (drop k digests) in
+    let within = mul-le (length group) hash.size (fan_out hash size) hash.size (omega (arith, few)) (omega arith) in
+    omega (arith, bytes, within, mul-div-le size hash.size)
 
 -- each hash block has the size
-pub hash_blocks_sizes : (size : ℕ) (salt : List ℕ) (blocks : List (List ℕ)) →
-    All (λ block. length block ≡ size) (hash_blocks size salt blocks)
-hash_blocks_sizes size salt blocks = All-from_get_or (λ block. length block ≡ size) (hash_blocks size salt blocks) []
-    (λ k within. ap length (get_or-hash_blocks size salt blocks k [] within)
-    ∙ length-filled size (concat (take (fan_out size) (drop (k * fan_out size) (map (salted salt) blocks))))
-    (group_fits size salt blocks (k * fan_out size)))
+pub hash_blocks_sizes : (hash : Hash) (size : ℕ) (salt : List ℕ) (blocks : List (List ℕ)) →
+    All (λ block. length block ≡ size) (hash_blocks hash size salt blocks)
+hash_blocks_sizes hash size salt blocks = All-from_get_or (λ block. length block ≡ size) (hash_blocks hash size salt blocks) []
+    (λ k within. ap length (get_or-hash_blocks hash size salt blocks k [] within)
+    ∙ length-filled size (concat (take (fan_out hash size) (drop (k * fan_out hash size) (map (salted hash salt) blocks))))
+    (group_fits hash size salt blocks (k * fan_out hash size)))
 
 -- one part of lists of one length that are joined
 pub part_of_joined : (width : ℕ) (parts : List (List ℕ)) (rest : List ℕ) (p : ℕ) →
@@ -106,53 +107,51 @@ part_of_joined width (part ∷ parts) rest (suc p) all within =
     ∙ more
 
 -- the digest of block j stands in the hash block over it, at its place
-pub digest_over : (size : ℕ) (salt : List ℕ) (blocks : List (List ℕ)) (j : ℕ) → 0 < fan_out size → j < length blocks →
-    j / fan_out size < length (hash_blocks size salt blocks) →
-    digest_in (j % fan_out size) (get_or (hash_blocks size salt blocks) (j / fan_out size) [])
-    ≡ salted salt (get_or blocks j [])
+pub digest_over : (hash : Hash) (size : ℕ) (salt : List ℕ) (blocks : List (List ℕ)) (j : ℕ) → 0 < fan_out hash size → j < length blocks →
+    j / fan_out hash size < length (hash_blocks hash size salt blocks) →
+    digest_in hash (j % fan_out hash size) (get_or (hash_blocks hash size salt blocks) (j / fan_out hash size) [])
+    ≡ salted hash salt (get_or blocks j [])
 unfolding filled
-digest_over size salt blocks j positive within over =
-    let h = fan_out size in
-    let digests = map (salted salt) blocks in
+digest_over hash size salt blocks j positive within over =
+    let h = fan_out hash size in
+    let digests = map (salted hash salt) blocks in
     let group = take h (drop (j / h * h) digests) in
-    let whole : All (λ digest. length digest ≡ 32) group =
-    All-take (λ digest. length digest ≡ 32) h (drop (j / h * h) digests)
-    (All-drop (λ digest. length digest ≡ 32) (j / h * h) digests (digests_whole salt blocks)) in
+    let whole : All (λ digest. length digest ≡ hash.size) group =
+    All-take (λ digest. length digest ≡ hash.size) h (drop (j / h * h) digests)
+    (All-drop (λ digest. length digest ≡ hash.size) (j / h * h) digests (digests_whole hash salt blocks)) in
     let split : j / h * h + j % h ≡ j = div-add-mod' j h in
     let low : j % h < h = mod_below j h positive in
-    let count : length digests ≡ length blocks = length-map blocks (salted salt) in
+    let count : length digests ≡ length blocks = length-map blocks (salted hash salt) in
     let inside : j % h < length group = omega (
       arith,
       length-take h (drop (j / h * h) digests),
       length-drop (j / h * h) digests,
     ) in
-    let place : 32 * (j % h) ≡ j % h * 32 = omega arith in
-    ap (λ xs. digest_in (j % h) xs) (get_or-hash_blocks size salt blocks (j / h) [] over)
-    ∙ (ap (λ (x : ℕ). take 32 (drop x (filled size (concat group)))) place
-    ∙ (part_of_joined 32 group (replicate (size - length (concat group)) 0) (j % h) whole inside
+    ap (λ xs. digest_in hash (j % h) xs) (get_or-hash_blocks hash size salt blocks (j / h) [] over)
+    ∙ (part_of_joined hash.size group (replicate (size - length (concat group)) 0) (j % h) whole inside
     ∙ (get_or-take h (drop (j / h * h) digests) (j % h) [] low
     ∙ (get_or-drop (j / h * h) digests (j % h) []
-    ∙ (ap (λ (x : ℕ). get_or digests x []) split ∙ get_or-map (salted salt) blocks j [] [] within)))))
+    ∙ (ap (λ (x : ℕ). get_or digests x []) split ∙ get_or-map (salted hash salt) blocks j [] [] within))))
 
 -- what is left of two numbers, each with the same added
 same_rest : (a b c d size : ℕ) → c ≡ a + size → size + b ≡ d → a - b ≡ c - d
 same_rest a b c d size first second = omega arith
 
 -- a full group and the groups behind it
-full_group : (size : ℕ) (digests behind : List (List ℕ)) (others : List ℕ) → 0 < fan_out size →
-    fan_out size * 32 ≡ size →
-    All (λ digest. length digest ≡ 32) digests → fan_out size < length digests → behind ≡ drop (fan_out size) digests →
-    others ≡ concat behind ++ replicate (div_ceil (length behind) (fan_out size) * size - length (concat behind)) 0 →
-    filled size (concat (take (fan_out size) digests)) ++ others
-    ≡ concat digests ++ replicate (div_ceil (length digests) (fan_out size) * size - length (concat digests)) 0
+full_group : (hash : Hash) (size : ℕ) (digests behind : List (List ℕ)) (others : List ℕ) → 0 < fan_out hash size →
+    fan_out hash size * hash.size ≡ size →
+    All (λ digest. length digest ≡ hash.size) digests → fan_out hash size < length digests → behind ≡ drop (fan_out hash size) digests →
+    others ≡ concat behind ++ replicate (div_ceil (length behind) (fan_out hash size) * size - length (concat behind)) 0 →
+    filled size (concat (take (fan_out hash size) digests)) ++ others
+    ≡ concat digests ++ replicate (div_ceil (length digests) (fan_out hash size) * size - length (concat digests)) 0
 unfolding filled
-full_group size digests behind others positive even whole above is more =
-    let h = fan_out size in
+full_group hash size digests behind others positive even whole above is more =
+    let h = fan_out hash size in
     let group = take h digests in
     let count : length group ≡ h = omega (arith, length-take h digests) in
-    let bytes : length (concat group) ≡ length group * 32 =
-    length-concat_same 32 group (All-take (λ digest. length digest ≡ 32) h digests whole) in
-    let exact : length (concat group) ≡ size = bytes ∙ (ap (λ (x : ℕ). x * 32) count ∙ even) in
+    let bytes : length (concat group) ≡ length group * hash.size =
+    length-concat_same hash.size group (All-take (λ digest. length digest ≡ hash.size) h digests whole) in
+    let exact : length (concat group) ≡ size = bytes ∙ (ap (λ (x : ℕ). x * hash.size) count ∙ even) in
     let room : size - length (concat group) ≡ 0 = omega arith in
     let full : filled size (concat group) ≡ concat group =
     ap (λ (x : ℕ). concat group ++ replicate x 0) room ∙ append-nil (concat group) in
@@ -178,30 +177,30 @@ full_group size digests behind others positive even whole above is more =
     ∙ ap (λ (x : ℕ). concat digests ++ replicate x 0) zeros)))
 
 -- digests that are cut into groups, each group filled: the digests, and zeros up to whole blocks
-filled_groups : (steps size : ℕ) (digests : List (List ℕ)) → length digests ≤ steps → 0 < fan_out size →
-    fan_out size * 32 ≡ size →
-    All (λ digest. length digest ≡ 32) digests →
-    concat (map (λ group. filled size (concat group)) (chunks (fan_out size) digests))
-    ≡ concat digests ++ replicate (div_ceil (length digests) (fan_out size) * size - length (concat digests)) 0
+filled_groups : (hash : Hash) (steps size : ℕ) (digests : List (List ℕ)) → length digests ≤ steps → 0 < fan_out hash size →
+    fan_out hash size * hash.size ≡ size →
+    All (λ digest. length digest ≡ hash.size) digests →
+    concat (map (λ group. filled size (concat group)) (chunks (fan_out hash size) digests))
+    ≡ concat digests ++ replicate (div_ceil (length digests) (fan_out hash size) * size - length (concat digests)) 0
 unfolding filled
-filled_groups steps size [] few positive even whole =
-    let none = div_ceil_none (fan_out size) positive in
-    let product : div_ceil 0 (fan_out size) * size ≡ 0 * size = ap (λ (x : ℕ). x * size) none in
-    let zeros : 0 ≡ div_ceil 0 (fan_out size) * size - 0 = omega arith in
-    ap (λ groups. concat (map (λ group. filled size (concat group)) groups)) (chunks_none (fan_out size) [] positive
+filled_groups hash steps size [] few positive even whole =
+    let none = div_ceil_none (fan_out hash size) positive in
+    let product : div_ceil 0 (fan_out hash size) * size ≡ 0 * size = ap (λ (x : ℕ). x * size) none in
+    let zeros : 0 ≡ div_ceil 0 (fan_out hash size) * size - 0 = omega arith in
+    ap (λ groups. concat (map (λ group. filled size (concat group)) groups)) (chunks_none (fan_out hash size) [] positive
     refl)
     ∙ ap (λ (x : ℕ). replicate x 0) zeros
-filled_groups zero size (digest ∷ digests) few positive even whole = absurd (omega arith)
-filled_groups (suc steps) size (digest ∷ digests) few positive even whole =
+filled_groups hash zero size (digest ∷ digests) few positive even whole = absurd (omega arith)
+filled_groups hash (suc steps) size (digest ∷ digests) few positive even whole =
     let all : List (List ℕ) = digest ∷ digests in
-    let h = fan_out size in
+    let h = fan_out hash size in
     elim (cases_lt h (length all)) [
       | inl above ↦
-          let more = filled_groups steps size (drop h all) (omega (arith, length-drop h all)) positive even
-          (All-drop (λ d. length d ≡ 32) h all whole) in
+          let more = filled_groups hash steps size (drop h all) (omega (arith, length-drop h all)) positive even
+          (All-drop (λ d. length d ≡ hash.size) h all whole) in
           ap (λ groups. concat (map (λ group. filled size (concat group)) groups))
           (chunks_more h all positive (omega arith))
-          ∙ full_group size all (drop h all)
+          ∙ full_group hash size all (drop h all)
           (concat (map (λ group. filled size (concat group)) (chunks h (drop h all))))
           positive even whole above refl more
       | inr within ↦
@@ -216,18 +215,18 @@ filled_groups (suc steps) size (digest ∷ digests) few positive even whole =
     ]
 
 -- the bytes of the hash blocks, where they are full but for the last: the digests, and zeros up to whole blocks
-pub concat-hash_blocks : (size : ℕ) (salt : List ℕ) (blocks : List (List ℕ)) → 0 < fan_out size →
-    fan_out size * 32 ≡ size →
-    concat (hash_blocks size salt blocks)
-    ≡ concat (map (salted salt) blocks) ++ replicate (div_ceil (length blocks) (fan_out size) * size - length blocks *
-    32) 0
+pub concat-hash_blocks : (hash : Hash) (size : ℕ) (salt : List ℕ) (blocks : List (List ℕ)) → 0 < fan_out hash size →
+    fan_out hash size * hash.size ≡ size →
+    concat (hash_blocks hash size salt blocks)
+    ≡ concat (map (salted hash salt) blocks) ++ replicate (div_ceil (length blocks) (fan_out hash size) * size - length blocks *
+    hash.size) 0
 unfolding hash_blocks
-concat-hash_blocks size salt blocks positive even =
-    let digests = map (salted salt) blocks in
-    let count : length digests ≡ length blocks = length-map blocks (salted salt) in
-    let whole = digests_whole salt blocks in
-    filled_groups (length digests) size digests (omega arith) positive even whole
-    ∙ ap (λ (x : ℕ). concat digests ++ replicate x 0) (ap (λ (x : ℕ). div_ceil x (fan_out size) * size - length
+concat-hash_blocks hash size salt blocks positive even =
+    let digests = map (salted hash salt) blocks in
+    let count : length digests ≡ length blocks = length-map blocks (salted hash salt) in
+    let whole = digests_whole hash salt blocks in
+    filled_groups hash (length digests) size digests (omega arith) positive even whole
+    ∙ ap (λ (x : ℕ). concat digests ++ replicate x 0) (ap (λ (x : ℕ). div_ceil x (fan_out hash size) * size - length
     (concat digests)) count
-    ∙ ap (λ (x : ℕ). div_ceil (length blocks) (fan_out size) * size - x) (length-concat_same 32 digests whole
-    ∙ ap (λ (x : ℕ). x * 32) count))
+    ∙ ap (λ (x : ℕ). div_ceil (length blocks) (fan_out hash size) * size - x) (length-concat_same hash.size digests whole
+    ∙ ap (λ (x : ℕ). x * hash.size) count))

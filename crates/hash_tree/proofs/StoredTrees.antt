@@ -3,6 +3,7 @@ use Rattle.std.proofs.Common.{◌≡◌, ℕ, zero, suc, ◌-◌, List, [], ◌�
 use Rattle.std.specs.List.{concat, flat_map}
 use Rattle.std.proofs.lemmas.List.{append-nil, append_assoc, reverse-append}
 use Rattle.std.proofs.lemmas.List.Concat.{flat_map-append}
+use Rattle.hash_tree.specs.Hash.{Hash}
 use Rattle.hash_tree.specs.Tree.{levels, stored}
 use Rattle.hash_tree.proofs.Levels.{levels_first}
 
@@ -33,13 +34,13 @@ all_down lowest (level ∷ above) =
     ∙ sym (bytes_down_more lowest level above (length above)))))
 
 -- the stored tree is all the levels above the data
-pub stored_down : (size : ℕ) (salt : List ℕ) (blocks : List (List ℕ)) →
-    stored size salt blocks ≡ bytes_down (levels size salt blocks) (length (levels size salt blocks) - 1)
+pub stored_down : (hash : Hash) (size : ℕ) (salt : List ℕ) (blocks : List (List ℕ)) →
+    stored hash size salt blocks ≡ bytes_down (levels hash size salt blocks) (length (levels hash size salt blocks) - 1)
 unfolding stored
-stored_down size salt blocks =
-    let all = levels size salt blocks in
+stored_down hash size salt blocks =
+    let all = levels hash size salt blocks in
     let above = drop 1 all in
-    let first = levels_first size salt blocks in
+    let first = levels_first hash size salt blocks in
     let count : length all ≡ suc (length above) = ap length first in
     let top : length above ≡ length all - 1 = omega arith in
     all_down blocks above

@@ -1,4 +1,5 @@
 pub mod Chunks
+pub mod Hash
 pub mod Tree
 pub mod Shape
 pub mod Path

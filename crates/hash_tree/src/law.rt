@@ -1,4 +1,4 @@
-ghost use Rattle.hash_tree.specs.Law.{BlocksHaveTheSize, CheckedPathsLeadToTheImage, LevelsAreTheHeight, LevelsHaveTheirBlocks, TheImagesPathsAreRight};
+ghost use Rattle.hash_tree.specs.Law.{BlocksHaveTheSize, CheckedPathsLeadToTheImage, HeightsAreLeast, HeightsAreOne, LevelsAreTheHeight, LevelsHaveTheirBlocks, TheImagesPathsAreRight};
 
 /// The digests of the image's own paths are all the wanted ones, from the image's root down. Any other path that is as
 /// long, and whose digests are all the wanted ones, ends with the image's block, unless it shows two blocks that differ
@@ -14,4 +14,11 @@ pub fn trees_have_their_shape()
     ensures height { LevelsAreTheHeight }
     ensures lengths { LevelsHaveTheirBlocks }
     ensures sizes { BlocksHaveTheSize }
+{}
+
+/// The height of a tree is the least number of levels that brings all blocks under one, and no other number is. The call
+/// does nothing: its contract is the law.
+pub fn heights_are_least()
+    ensures least { HeightsAreLeast }
+    ensures one { HeightsAreOne }
 {}

@@ -7,9 +7,11 @@
 #![tactic(auto)]
 
 mod above;
+mod algorithm;
 mod law;
 mod shape;
 
-pub use above::{Tree, build, salted_digest};
-pub use law::{checked_paths_lead_to_the_image, trees_have_their_shape};
+pub use above::{Tree, build};
+pub use algorithm::{HashAlgorithm, array_of, held};
+pub use law::{checked_paths_lead_to_the_image, heights_are_least, trees_have_their_shape};
 pub use shape::{Shape, layout};

@@ -5,6 +5,7 @@ use Rattle.hex.specs.Hex.{encode_lower}
 use Rattle.blk_device.specs.Contents.{Contents, content}
 use Rattle.dmv_tree.specs.Blocks.{AreBlocks}
 use Rattle.hash_tree.specs.Chunks.{chunks}
+use Rattle.hash_tree.specs.Hash.{sha256_hash}
 use Rattle.hash_tree.specs.Shape.{blocks_above}
 use Rattle.hash_tree.specs.Tree.{fan_out, levels, root}
 use Rattle.line_words.specs.Lines.{line_text}
@@ -19,7 +20,7 @@ most_device = 16777216
 
 -- how many levels the tree over an image's blocks has above them
 abbrev pub levels_above : ℕ → List ℕ → List ℕ → ℕ
-levels_above size salt bytes = length (levels size salt (chunks size bytes)) - 1
+levels_above size salt bytes = length (levels sha256_hash size salt (chunks size bytes)) - 1
 
 -- how many levels and hash blocks a tree has
 abbrev pub shape_text : ℕ → ℕ → List ℕ
@@ -33,8 +34,8 @@ root_line digest above hash_blocks = codes "sha256:" ++ encode_lower digest ++ s
 -- the root of an image cut into blocks of a size, each hashed behind the salt, and the shape of its tree
 abbrev pub root_text : ℕ → List ℕ → List ℕ → List ℕ
 root_text size salt bytes =
-    root_line (root size salt (chunks size bytes)) (levels_above size salt bytes)
-    (blocks_above (fan_out size) (length (chunks size bytes)) (levels_above size salt bytes))
+    root_line (root sha256_hash size salt (chunks size bytes)) (levels_above size salt bytes)
+    (blocks_above (fan_out sha256_hash size) (length (chunks size bytes)) (levels_above size salt bytes))
 
 -- the refusal of a device
 abbrev pub device_text : List ℕ → List ℕ → List ℕ

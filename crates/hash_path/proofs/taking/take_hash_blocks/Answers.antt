@@ -1,17 +1,18 @@
 use Rattle.std.proofs.Common.{◌≡◌, ℕ, ◌+◌, ◌-◌, ◌*◌, ◌/◌, ◌%◌, ◌^◌, ap, sym, ◌∙◌, subst, arith}
 use Rattle.blk_device.specs.Contents.{HasAtLeast}
+use Rattle.hash_tree.specs.Hash.{hash_of}
 use Rattle.hash_tree.specs.Path.{digest_in}
 use Rattle.hash_tree.specs.Tree.{fan_out, salted}
 use Rattle.hash_path.specs.Blocks.{Blocks}
 use Rattle.hash_path.specs.Checked.{FailsAt}
-use Rattle.hash_path.specs.Stored.{Stored}
+use Rattle.hash_path.specs.Stored.{fan_of, Stored}
 use Rattle.hash_path.proofs.Places.{block_room, few_before, level_is, next_few}
 use Rattle.hash_path.proofs.Walking.{after_read, fails, leads_to, next_step, read_before, right_digest, wrong_digest}
 use Rattle.hash_path.proofs.taking.take_hash_blocks.Goals as goal
 
 pub overflow_add-first : goal.overflow_add-first
 overflow_add-first g c =
-    let wide = c.from-fan_out.ensures ∙ ap (λ (t : Stored). fan_out t.block_size) c.tree.view_is in
+    let wide = c.fan_out-fan_out.ensures ∙ ap (λ (t : Stored). fan_of t) c.tree.view_is in
     let over = c.over-block.ensures ∙ ap (λ (x : ℕ). c.args.i / x ^ c.loop-level.level) wide in
     let few = few_before c.args.tree.now c.args.i c.loop-level.first c.loop-level.level c.over-block.result
     c.requires.tree c.requires.block c.loop-level-test.true over c.loop-level.invariant.at.place in
@@ -19,7 +20,7 @@ overflow_add-first g c =
 
 pub read_hash_block-requires-clause-few : goal.read_hash_block-requires-clause-few
 read_hash_block-requires-clause-few g c =
-    let wide = c.from-fan_out.ensures ∙ ap (λ (t : Stored). fan_out t.block_size) c.tree.view_is in
+    let wide = c.fan_out-fan_out.ensures ∙ ap (λ (t : Stored). fan_of t) c.tree.view_is in
     let over = c.over-block.ensures ∙ ap (λ (x : ℕ). c.args.i / x ^ c.loop-level.level) wide in
     few_before c.args.tree.now c.args.i c.loop-level.first c.loop-level.level c.over-block.result
     c.requires.tree c.requires.block c.loop-level-test.true over c.loop-level.invariant.at.place
@@ -27,7 +28,7 @@ read_hash_block-requires-clause-few g c =
 pub read_hash_block-requires-clause-there : goal.read_hash_block-requires-clause-there
 read_hash_block-requires-clause-there g c =
     let tree = c.args.tree.now in
-    let wide = c.from-fan_out.ensures ∙ ap (λ (t : Stored). fan_out t.block_size) c.tree.view_is in
+    let wide = c.fan_out-fan_out.ensures ∙ ap (λ (t : Stored). fan_of t) c.tree.view_is in
     let over = c.over-block.ensures ∙ ap (λ (x : ℕ). c.args.i / x ^ c.loop-level.level) wide in
     subst (λ now. HasAtLeast now tree.device (tree.start + (c.loop-level.first + c.over-block.result) *
     tree.block_size + tree.block_size)) (sym c.loop-level.invariant.same)
@@ -40,13 +41,15 @@ returns-then-ne-clause-corrupt g c = λ level b is.
     let tree = c.args.tree.now in
     let block = c.read_hash_block.new.out in
     let longer = c.push.new.self.items in
-    let wide = c.from-fan_out.ensures ∙ ap (λ (t : Stored). fan_out t.block_size) c.tree.view_is in
+    let wide = c.fan_out-fan_out.ensures ∙ ap (λ (t : Stored). fan_of t) c.tree.view_is in
     let over = c.over-block.ensures ∙ ap (λ (x : ℕ). c.args.i / x ^ c.loop-level.level) wide in
-    let digest : c.salted_digest.result ≡ salted tree.salt block =
-    c.salted_digest.ensures ∙ ap (λ (t : Stored). salted t.salt block) c.tree.view_is in
+    let digest : c.salted_digest-digest.result.items ≡ salted (hash_of tree.algorithm) tree.salt block =
+    c.salted_digest-digest.ensures ∙ ap (λ (t : Stored). salted (hash_of t.algorithm) t.salt block) c.tree.view_is in
     let here = fails tree (g.D.Devices.contents c.args.dev.now) c.args.i c.loop-level.path.items longer
-    c.loop-level.level c.loop-level.first c.loop-level.wanted block c.loop-level.invariant.at
-    (wrong_digest c.loop-level.wanted c.salted_digest.result (salted tree.salt block) digest c.if-ne.ensures)
+    c.loop-level.level c.loop-level.first c.loop-level.wanted.items block c.loop-level.invariant.at
+    (λ same. wrong_digest c.as_slice.result.now c.as_slice-in-loop-level.result.now
+    (salted (hash_of tree.algorithm) tree.salt block) (c.as_slice-in-loop-level.ensures.value ∙ digest) c.if-ne.ensures
+    (c.as_slice.ensures.value ∙ same))
     (ap (λ (path : Blocks). path.items) c.push.ensures) in
     let first : c.loop-level.level ≡ level = cc in
     let second : c.over-block.result ≡ b = cc in
@@ -58,22 +61,22 @@ returns-then-ne-clause-held g c =
     let tree = c.args.tree.now in
     let told = g.D.Devices.contents c.args.dev.now in
     let block = c.read_hash_block.new.out in
-    let wide = c.from-fan_out.ensures ∙ ap (λ (t : Stored). fan_out t.block_size) c.tree.view_is in
+    let wide = c.fan_out-fan_out.ensures ∙ ap (λ (t : Stored). fan_of t) c.tree.view_is in
     let over = c.over-block.ensures ∙ ap (λ (x : ℕ). c.args.i / x ^ c.loop-level.level) wide in
     let read = read_before told (g.D.Devices.contents c.loop-level.dev) tree c.args.i c.loop-level.first
     c.loop-level.level c.over-block.result block c.loop-level.invariant.same over
     c.in_ok-read_hash_block.ensures.held in
     after_read tree told c.args.i c.loop-level.path.items c.push.new.self.items c.loop-level.level c.loop-level.first
-    c.loop-level.wanted block c.loop-level.invariant.at c.loop-level-test.true read
+    c.loop-level.wanted.items block c.loop-level.invariant.at c.loop-level-test.true read
     (ap (λ (path : Blocks). path.items) c.push.ensures)
 
 pub overflow_add-first-in-loop-level-2 : goal.overflow_add-first-in-loop-level-2
 overflow_add-first-in-loop-level-2 g c =
     let tree = c.args.tree.now in
-    let wide = c.from-fan_out.ensures ∙ ap (λ (t : Stored). fan_out t.block_size) c.tree.view_is in
-    let next = level_is tree c.loop-level.level c.from-fan_out.result c.over.result c.requires.tree wide
+    let wide = c.fan_out-fan_out.ensures ∙ ap (λ (t : Stored). fan_of t) c.tree.view_is in
+    let next = level_is tree c.loop-level.level c.fan_out-fan_out.result c.over.result c.requires.tree wide
     (c.over.ensures
-    ∙ ap (λ (t : Stored). (t.blocks - 1) / c.from-fan_out.result ^ c.loop-level.level) c.tree.view_is) in
+    ∙ ap (λ (t : Stored). (t.blocks - 1) / c.fan_out-fan_out.result ^ c.loop-level.level) c.tree.view_is) in
     let few = next_few tree c.loop-level.first c.loop-level.level c.requires.tree c.loop-level-test.true
     c.loop-level.invariant.at.place in
     omega (arith, few, next)
@@ -83,27 +86,30 @@ loop-level-preserved g c =
     let tree = c.args.tree.now in
     let told = g.D.Devices.contents c.args.dev.now in
     let block = c.read_hash_block.new.out in
-    let wide = c.from-fan_out.ensures ∙ ap (λ (t : Stored). fan_out t.block_size) c.tree.view_is in
+    let wide = c.fan_out-fan_out.ensures ∙ ap (λ (t : Stored). fan_of t) c.tree.view_is in
     let over = c.over-block.ensures ∙ ap (λ (x : ℕ). c.args.i / x ^ c.loop-level.level) wide in
     let read = read_before told (g.D.Devices.contents c.loop-level.dev) tree c.args.i c.loop-level.first
     c.loop-level.level c.over-block.result block c.loop-level.invariant.same over
     c.in_ok-read_hash_block.ensures.held in
-    let digest : c.salted_digest.result ≡ salted tree.salt block =
-    c.salted_digest.ensures ∙ ap (λ (t : Stored). salted t.salt block) c.tree.view_is in
-    let right = right_digest c.loop-level.wanted c.salted_digest.result (salted tree.salt block) digest
-    c.if-ne.ensures in
-    let next = level_is tree c.loop-level.level c.from-fan_out.result c.over.result c.requires.tree wide
+    let digest : c.salted_digest-digest.result.items ≡ salted (hash_of tree.algorithm) tree.salt block =
+    c.salted_digest-digest.ensures ∙ ap (λ (t : Stored). salted (hash_of t.algorithm) t.salt block) c.tree.view_is in
+    let right = sym c.as_slice.ensures.value ∙ right_digest c.as_slice.result.now
+    c.as_slice-in-loop-level.result.now (salted (hash_of tree.algorithm) tree.salt block)
+    (c.as_slice-in-loop-level.ensures.value ∙ digest) c.if-ne.ensures in
+    let next = level_is tree c.loop-level.level c.fan_out-fan_out.result c.over.result c.requires.tree wide
     (c.over.ensures
-    ∙ ap (λ (t : Stored). (t.blocks - 1) / c.from-fan_out.result ^ c.loop-level.level) c.tree.view_is) in
-    let wanted : c.digest_in-wanted.result ≡ digest_in ((c.args.i / fan_out tree.block_size ^ (c.loop-level.level - 1))
-    % fan_out tree.block_size) block =
+    ∙ ap (λ (t : Stored). (t.blocks - 1) / c.fan_out-fan_out.result ^ c.loop-level.level) c.tree.view_is) in
+    let wanted : c.digest_in-wanted.result.items ≡ digest_in (hash_of tree.algorithm) ((c.args.i / fan_of tree ^ (c.loop-level.level - 1))
+    % fan_of tree) block =
     c.digest_in-wanted.ensures
-    ∙ (ap (λ (x : ℕ). digest_in (x % c.from-fan_out.result) block) c.over-in-loop-level.ensures
-    ∙ ap (λ (x : ℕ). digest_in ((c.args.i / x ^ (c.loop-level.level - 1)) % x) block) wide) in
+    ∙ (ap (λ (t : Stored). digest_in (hash_of t.algorithm) (c.over-in-loop-level.result % c.fan_out-fan_out.result)
+    block) c.tree.view_is
+    ∙ (ap (λ (x : ℕ). digest_in (hash_of tree.algorithm) (x % c.fan_out-fan_out.result) block) c.over-in-loop-level.ensures
+    ∙ ap (λ (x : ℕ). digest_in (hash_of tree.algorithm) ((c.args.i / x ^ (c.loop-level.level - 1)) % x) block) wide)) in
     record {
       at = next_step tree told c.args.i c.loop-level.path.items c.push.new.self.items c.loop-level.level
-          c.loop-level.first (c.loop-level.first + (c.over.result + 1)) c.loop-level.wanted block
-          c.digest_in-wanted.result c.loop-level.invariant.at c.loop-level-test.true right read
+          c.loop-level.first (c.loop-level.first + (c.over.result + 1)) c.loop-level.wanted.items block
+          c.digest_in-wanted.result.items c.loop-level.invariant.at c.loop-level-test.true right read
           (ap (λ (x : ℕ). c.loop-level.first + x) next) wanted (ap (λ (path : Blocks). path.items) c.push.ensures);
       same = c.in_ok-read_hash_block.ensures.same ∙ c.loop-level.invariant.same;
       faults = omega (arith, c.loop-level.invariant.faults, c.in_ok-read_hash_block.ensures.never_falls);
@@ -115,4 +121,4 @@ loop-level-preserved g c =
 pub returns-clause-leads : goal.returns-clause-leads
 returns-clause-leads g c =
     leads_to c.args.tree.now (g.D.Devices.contents c.args.dev.now) c.args.i c.loop-level.path.items c.loop-level.level
-    c.loop-level.first c.loop-level.wanted c.loop-level.invariant.at (omega (arith, c.loop-level-test.false))
+    c.loop-level.first c.loop-level.wanted.items c.loop-level.invariant.at (omega (arith, c.loop-level-test.false))

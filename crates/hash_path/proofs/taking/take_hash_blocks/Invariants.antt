@@ -5,7 +5,7 @@ use Rattle.hash_path.proofs.taking.take_hash_blocks.Given as goal
 -- the blocks so far are right, the device holds what it held, and no fault was taken back
 abbrev pub invariant-loop-level : goal.invariant-loop-level
 invariant-loop-level g l = record {
-  at : AtStep l.tree (g.D.Devices.contents l.fn.dev) l.i l.path.items l.level l.first l.wanted;
+  at : AtStep l.tree (g.D.Devices.contents l.fn.dev) l.i l.path.items l.level l.first l.wanted.items;
   same : g.D.Devices.contents l.dev ≡ g.D.Devices.contents l.fn.dev;
   faults : g.D.Devices.faults l.fn.dev ≤ g.D.Devices.faults l.dev;
   one_block : length l.buffer ≡ l.tree.block_size;

@@ -1,3 +1,4 @@
+use Rattle.hash_tree.specs.Hash.{hash_of}
 use Rattle.std.proofs.Common.{◌≡◌, ℕ, ◌<◌, ◌≤◌, ◌++◌, List, length, ap, sym, ◌∙◌, arith, append-nil, append_assoc}
 use Rattle.std.proofs.lemmas.Result.{IfOk-weaker}
 use Rattle.hash_tree.specs.Tree.{salted, filled, data_blocks, root, stored}
@@ -7,9 +8,9 @@ use Rattle.hash_tree.proofs.above.+add_levels.Goals as goal
 pub returns-then-level-size-clause-root : goal.returns-then-level-size-clause-root
 returns-then-level-size-clause-root t c =
     IfOk-weaker c.filled_digest.result
-    (λ (digest : List ℕ). digest ≡ salted c.args.salt.now (filled c.args.size c.args.level.now))
-    (λ (digest : List ℕ). digest ≡ root c.args.size c.args.salt.now (data_blocks c.args.size c.args.level.now))
-    (λ digest is. is ∙ sym (root_of_one c.args.size c.args.salt.now c.args.level.now c.requires.some
+    (λ digest. digest.items ≡ salted (hash_of c.args.algorithm) c.args.salt.now (filled c.args.size c.args.level.now))
+    (λ digest. digest.items ≡ root (hash_of c.args.algorithm) c.args.size c.args.salt.now (data_blocks c.args.size c.args.level.now))
+    (λ digest is. is ∙ sym (root_of_one (hash_of c.args.algorithm) c.args.size c.args.salt.now c.args.level.now c.requires.some
     c.if-level-size.true))
     c.filled_digest.ensures
 
@@ -17,15 +18,15 @@ pub returns-then-level-size-clause-added : goal.returns-then-level-size-clause-a
 returns-then-level-size-clause-added t c =
     let tree = c.args.tree.now.items in
     IfOk-weaker c.filled_digest.result
-    (λ (digest : List ℕ). digest ≡ salted c.args.salt.now (filled c.args.size c.args.level.now))
-    (λ (digest : List ℕ). tree ≡ tree ++ stored c.args.size c.args.salt.now (data_blocks c.args.size c.args.level.now))
-    (λ digest is. sym (ap (λ (xs : List ℕ). tree ++ xs) (stored_of_one c.args.size c.args.salt.now c.args.level.now
+    (λ digest. digest.items ≡ salted (hash_of c.args.algorithm) c.args.salt.now (filled c.args.size c.args.level.now))
+    (λ digest. tree ≡ tree ++ stored (hash_of c.args.algorithm) c.args.size c.args.salt.now (data_blocks c.args.size c.args.level.now))
+    (λ digest is. sym (ap (λ (xs : List ℕ). tree ++ xs) (stored_of_one (hash_of c.args.algorithm) c.args.size c.args.salt.now c.args.level.now
     c.requires.some c.if-level-size.true) ∙ append-nil tree))
     c.filled_digest.ensures
 
 pub add_levels-requires : goal.add_levels-requires
 add_levels-requires t c =
-    let above = level_above c.args.size c.args.salt.now c.args.level.now c.in_ok-above.above.items c.requires.size
+    let above = level_above (hash_of c.args.algorithm) c.args.size c.args.salt.now c.args.level.now c.in_ok-above.above.items c.requires.size
     (omega (arith, c.if-level-size.false)) c.in_ok-above.ensures in
     let count : length c.deref.result.now ≡ length c.in_ok-above.above.items = ap length c.deref.ensures.value in
     let fewer : length c.in_ok-above.above.items < length c.args.level.now = above.fewer in
@@ -35,9 +36,9 @@ add_levels-requires t c =
 
 pub returns-clause-root : goal.returns-clause-root
 returns-clause-root t c =
-    let above = level_above c.args.size c.args.salt.now c.args.level.now c.in_ok-above.above.items c.requires.size
+    let above = level_above (hash_of c.args.algorithm) c.args.size c.args.salt.now c.args.level.now c.in_ok-above.above.items c.requires.size
     (omega (arith, c.if-level-size.false)) c.in_ok-above.ensures in
-    c.in_ok-root.ensures.root ∙ (ap (λ (xs : List ℕ). root c.args.size c.args.salt.now (data_blocks c.args.size xs))
+    c.in_ok-root.ensures.root ∙ (ap (λ (xs : List ℕ). root (hash_of c.args.algorithm) c.args.size c.args.salt.now (data_blocks c.args.size xs))
     c.deref.ensures.value ∙ sym above.root_is)
 
 pub returns-clause-added : goal.returns-clause-added
@@ -46,10 +47,10 @@ returns-clause-added t c =
     let salt = c.args.salt.now in
     let tree = c.args.tree.now.items in
     let bytes = c.in_ok-above.above.items in
-    let above = level_above size salt c.args.level.now bytes c.requires.size (omega (arith, c.if-level-size.false)) c.in_ok-above.ensures in
-    let lower = stored size salt (data_blocks size bytes) in
+    let above = level_above (hash_of c.args.algorithm) size salt c.args.level.now bytes c.requires.size (omega (arith, c.if-level-size.false)) c.in_ok-above.ensures in
+    let lower = stored (hash_of c.args.algorithm) size salt (data_blocks size bytes) in
     let higher : c.add_levels.new.tree.items ≡ tree ++ lower =
-    c.in_ok-root.ensures.added ∙ ap (λ (xs : List ℕ). tree ++ stored size salt (data_blocks size xs))
+    c.in_ok-root.ensures.added ∙ ap (λ (xs : List ℕ). tree ++ stored (hash_of c.args.algorithm) size salt (data_blocks size xs))
     c.deref.ensures.value in
     c.in_ok-extend_from_slice.ensures.items
     ∙ (ap (λ (xs : List ℕ). xs ++ c.deref-2.result.now) higher

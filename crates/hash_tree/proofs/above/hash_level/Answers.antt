@@ -1,3 +1,4 @@
+use Rattle.hash_tree.specs.Hash.{hash_of}
 use Rattle.std.proofs.Common.{rules, ◌≡◌, ℕ, ◌++◌, List, ◌-◌, ◌*◌, length, take, replicate, vec_len, ap, sym, ◌∙◌, subst, arith}
 use Rattle.std.specs.Slice.Iter.{chunks_rest}
 use Rattle.std.specs.Int.{div_ceil}
@@ -14,26 +15,28 @@ loop-block-preserved c =
     let rest = chunks_rest c.next.new.self in
     let steps = c.in-Some.ensures.steps in
     let sizes = c.loop-block.invariant.2 in
-    let more = hashing_more size salt c.args.level.now before (chunks_rest c.loop-block.block-iterator) block rest
-    (omega (arith, at_least size c.requires.size)) c.loop-block.invariant.3 steps.1.0 (rw sizes at
+    let more = hashing_more (hash_of c.args.algorithm) size salt c.args.level.now before (chunks_rest c.loop-block.block-iterator) block rest
+    (omega (arith, at_least (hash_of c.args.algorithm) size c.requires.size)) c.loop-block.invariant.3 steps.1.0 (rw sizes at
     steps.1.1) steps.1.2 in
-    let added : c.extend_from_slice.new.self.items ≡ before ++ salted salt (filled size block) =
-    c.in_ok-extend_from_slice.ensures.items ∙ ap (λ (xs : List ℕ). before ++ xs) c.in_ok-digest.ensures in (
+    let added : c.extend_from_slice.new.self.items ≡ before ++ salted (hash_of c.args.algorithm) salt (filled size block) =
+    c.in_ok-extend_from_slice.ensures.items ∙ ap (λ (xs : List ℕ). before ++ xs) (c.deref.ensures.0 ∙ c.in_ok-digest.ensures) in (
       search rules,
       tt,
       steps.0 ∙ sizes,
-      subst (λ (xs : List ℕ). Hashing size salt c.args.level.now xs rest) (sym added) more,
+      subst (λ (xs : List ℕ). Hashing (hash_of c.args.algorithm) size salt c.args.level.now xs rest) (sym added) more,
     )
 
 pub returns : goal.returns
 returns c =
     let size = c.args.size in
-    let done = hashing_done size c.args.salt.now c.args.level.now c.loop-block.above.items (chunks_rest
+    let done = hashing_done (hash_of c.args.algorithm) size c.args.salt.now c.args.level.now c.loop-block.above.items (chunks_rest
     c.loop-block.block-iterator)
-    (omega (arith, at_least size c.requires.size)) c.loop-block.invariant.3 c.in-None.ensures.steps.1.0 in
-    let full = c.div_ceil.result * size in
+    (omega (arith, at_least (hash_of c.args.algorithm) size c.requires.size)) c.loop-block.invariant.3 c.in-None.ensures.steps.1.0 in
+    let full = c.div_ceil-2.result * size in
     let count : vec_len c.loop-block.above ≡ length c.loop-block.above.items = omega (arith, c.loop-block.above.ok.0) in
     c.in_ok-resize.ensures.items
     ∙ (ap (λ (n : ℕ). take full c.loop-block.above.items ++ replicate (full - n) 0) count
-    ∙ hashed_level size c.args.salt.now c.args.level.now c.loop-block.above.items full c.requires.size c.requires.some done
-    (ap (λ (n : ℕ). n * size) (c.div_ceil.ensures ∙ ap (λ (n : ℕ). div_ceil (n * 32) size) c.div_ceil-digest_bytes.ensures)))
+    ∙ hashed_level (hash_of c.args.algorithm) size c.args.salt.now c.args.level.now c.loop-block.above.items full c.requires.size c.requires.some done
+    (ap (λ (n : ℕ). n * size) (c.div_ceil-2.ensures
+    ∙ (ap (λ (n : ℕ). div_ceil (n * c.digest_size.result) size) c.div_ceil.ensures
+    ∙ ap (λ (n : ℕ). div_ceil (div_ceil (length c.args.level.now) size * n) size) c.digest_size.ensures.value))))

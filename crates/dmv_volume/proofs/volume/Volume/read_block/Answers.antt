@@ -10,34 +10,34 @@ use Rattle.dmv_volume.proofs.volume.Volume.read_block.Goals as goal
 
 pub take_path-read-requires-clause-tree : goal.take_path-read-requires-clause-tree
 take_path-read-requires-clause-tree g c =
-    is_stored c.self.inside.table c.self.inside.levels c.self.invariant.limits c.self.invariant.height
+    is_stored c.self.inside.table c.self.invariant.limits
 
 pub take_path-read-requires-clause-has_tree : goal.take_path-read-requires-clause-has_tree
 take_path-read-requires-clause-has_tree g c =
     let told = g.D.Devices.contents c.args.dev.now in
-    subst (λ (v : Attached). HasTree told (tree_of v.table v.levels)) (sym c.self.view_is)
-    (has_tree told c.args.self.now.table c.args.self.now.levels c.requires.has_hashes)
+    subst (λ (v : Attached). HasTree told (tree_of v.table)) (sym c.self.view_is)
+    (has_tree told c.args.self.now.table c.requires.has_hashes)
 
 pub returns-clause-image : goal.returns-clause-image
 returns-clause-image g c =
     let table = c.self.inside.table in
     let inside : c.args.i < table.blocks =
     subst (λ (v : Attached). c.args.i < v.table.blocks) (sym c.self.view_is) c.requires.block in
-    let right : OnOk c.take_path-read.result (IsChecked (tree_of table c.self.inside.levels) c.args.i
+    let right : OnOk c.take_path-read.result (IsChecked (tree_of table) c.args.i
     c.take_path-read.new.path.items c.if-is_err.out) = search rules in
-    subst (λ (v : Attached). OnOk c.take_path-read.result (IsOfImage (tree_of v.table v.levels) c.args.i
+    subst (λ (v : Attached). OnOk c.take_path-read.result (IsOfImage (tree_of v.table) c.args.i
     c.take_path-read.new.path.items c.if-is_err.out)) c.self.view_is
-    (after_ok c.take_path-read.result _ _ (of_image (tree_of table c.self.inside.levels) c.args.i
+    (after_ok c.take_path-read.result _ _ (of_image (tree_of table) c.args.i
     c.take_path-read.new.path.items c.if-is_err.out
-    (is_stored table c.self.inside.levels c.self.invariant.limits c.self.invariant.height) inside) right)
+    (is_stored table c.self.invariant.limits) inside) right)
 
 pub returns-clause-answer : goal.returns-clause-answer
 returns-clause-answer g c =
     let told = g.D.Devices.contents c.args.dev.now in
     subst (λ (v : Attached). OfBoth told v.table (λ bytes hashes. (IsErrOf c.take_path-read.result DeviceFault → ⊥) →
-    c.take_path-read.result ≡ answer_of (failing (tree_of v.table v.levels) c.args.i (held_path v.table v.levels bytes
+    c.take_path-read.result ≡ answer_of (failing (tree_of v.table) c.args.i (held_path v.table bytes
     hashes c.args.i)))) c.self.view_is
-    (told_answer told c.self.inside.table c.self.inside.levels c.args.i c.take_path-read.new.path.items
+    (told_answer told c.self.inside.table c.args.i c.take_path-read.new.path.items
     c.take_path-read.new.out c.take_path-read.result
     (record { ok = c.take_path-read.ensures.ok; corrupt = c.take_path-read.ensures.corrupt })
     c.take_path-read.ensures.missing c.take_path-read.ensures.held)
@@ -45,8 +45,8 @@ returns-clause-answer g c =
 pub returns-clause-complete : goal.returns-clause-complete
 returns-clause-complete g c =
     let volume = c.args.self.now in
-    let stored : IsStored (tree_of volume.table volume.levels) =
-    subst (λ (v : Attached). IsStored (tree_of v.table v.levels)) c.self.view_is
-    (is_stored c.self.inside.table c.self.inside.levels c.self.invariant.limits c.self.invariant.height) in
-    complete (g.D.Devices.contents c.args.dev.now) volume.table volume.levels c.args.i c.take_path-read.result stored
+    let stored : IsStored (tree_of volume.table) =
+    subst (λ (v : Attached). IsStored (tree_of v.table)) c.self.view_is
+    (is_stored c.self.inside.table c.self.invariant.limits) in
+    complete (g.D.Devices.contents c.args.dev.now) volume.table c.args.i c.take_path-read.result stored
     c.requires.block (returns-clause-answer g c)
