@@ -13,3 +13,4 @@ pub mod Policies
 pub mod OfPolicies
 pub mod Unpacking
 pub mod Texts
+pub mod DecidingStatements

@@ -85,7 +85,7 @@ pub rule-spelled : (op : Op) (properties : List Property) (action : Action)
 rule-spelled op properties action = joined-map (op_token op) properties (action_token action)
 
 -- operations of one number are one
-one-op : (a b : Op) → same_op a b ≡ true → a ≡ b
+pub one-op : (a b : Op) → same_op a b ≡ true → a ≡ b
 one-op a b e =
     let number : op_number a ≡ op_number b = eqb-true _ _ e in
     let both : ◌≡◌ {A = Option Op} (Some a) (Some b) = sym (op-back a) ∙ ap (slice_get operations) number ∙ op-back b in

@@ -3,13 +3,14 @@ use Rattle.std.specs.Prelude.{◌≡◌, ℕ, ◌≤◌, List, ◌++◌, Some}
 use Rattle.ipe_policy.specs.declared.op.Op.{Op}
 use Rattle.ipe_policy.specs.declared.statement.Statement.{Statement}
 use Rattle.ipe_policy.specs.declared.evaluation.Context.{Context}
+use Rattle.ipe_policy.specs.declared.evaluation.Found.{Found}
 use Rattle.ipe_policy.specs.Policy.{IsPolicy}
-use Rattle.ipe_policy.specs.Evaluation.{decision}
+use Rattle.ipe_policy.specs.Evaluation.{decision, deciding_statement}
 use Rattle.ipe_policy.specs.Spelling.{words_of_image}
 use Rattle.ipe_image.specs.Parts.{ImageParts, parts_of, statements_of}
 use Rattle.ipe_image.specs.Image.{image_of}
 use Rattle.ipe_image.specs.Reading.{image_in}
-use Rattle.ipe_image.specs.Decision.{decision_in}
+use Rattle.ipe_image.specs.Decision.{deciding, decision_in}
 
 -- the statements of a policy that fits into 4,096 words
 pub record HasImage (items : List Statement) : Type 0 where
@@ -38,3 +39,10 @@ abbrev pub DecideAlike : Type 0
 DecideAlike =
     (items : List Statement) (serial : ℕ) (op : Op) (context : Context)
     → decision_in (parts_of serial items) op context ≡ decision items op context
+
+-- the statement by which a policy's parts decide is the policy's deciding statement
+abbrev pub DecideByOneStatement : Type 0
+DecideByOneStatement =
+    (items : List Statement) (serial : ℕ) (op : Op) (context : Context) (found : Found)
+    → decision items op context ≡ Some found
+    → deciding (parts_of serial items) op found ≡ deciding_statement items op context

@@ -1,1 +1,2 @@
 mod SpellingLemmas
+mod PolicyRules

@@ -1,7 +1,7 @@
 -- What a property says of a file, and what a policy decides (kernel admin-guide/LSM/ipe.rst, "IPE Policy").
-use Rattle.std.specs.Prelude.{ℕ, Bool, true, false, not, ◌&&◌, List, [], ◌∷◌, Option, Some, None}
-use Rattle.std.specs.List.{list_all, filter_map, find, enumerate_from}
-use Rattle.std.specs.Option.{option_map_or}
+use Rattle.std.specs.Prelude.{ℕ, Bool, true, false, not, ◌&&◌, ◌-◌, List, [], ◌∷◌, slice_get, Option, Some, None, is_some}
+use Rattle.std.specs.List.{list_all, filter, filter_map, find, enumerate_from}
+use Rattle.std.specs.Option.{option_and_then, option_map_or}
 use Rattle.ipe_policy.specs.declared.op.Op.{Op}
 use Rattle.ipe_policy.specs.declared.op.Action.{Action}
 use Rattle.ipe_policy.specs.declared.statement.Digest.{Digest}
@@ -13,7 +13,7 @@ use Rattle.ipe_policy.specs.declared.evaluation.Signed.{Signed}
 use Rattle.ipe_policy.specs.declared.evaluation.Found.{Found}
 use Rattle.ipe_policy.specs.declared.evaluation.Which as which
 use Rattle.line_words.specs.Words.{is_text}
-use Rattle.ipe_policy.specs.Statement.{RuleParts, rule_of, same_op}
+use Rattle.ipe_policy.specs.Statement.{RuleParts, global_default_of, op_default_of, rule_of, same_op}
 use Rattle.ipe_policy.specs.Policy.{op_defaults, global_defaults}
 
 -- a truth value that is wanted is the one that is there
@@ -66,3 +66,15 @@ decision items op context = decided (first_match items op context)
     decided (Some rule) = Some (record { action = rule.1.action; which = which.TheVariants.Rule rule.0 })
     decided None = first_default which.TheVariants.OpDefault (op_defaults op items)
         (first_default which.TheVariants.GlobalDefault (global_defaults items) None)
+
+-- the statement that is the rule of this number in text order, from 1, or that gives the operation's or the global default
+abbrev pub found_statement : List Statement → Op → which.Which → Option Statement
+found_statement items op (which.TheVariants.Rule number) =
+    slice_get (filter (λ item. is_some (rule_of item)) items) (number - 1)
+found_statement items op which.TheVariants.OpDefault = find (λ item. is_some (op_default_of op item)) items
+found_statement items op which.TheVariants.GlobalDefault = find (λ item. is_some (global_default_of item)) items
+
+-- the statement of a policy that decides
+abbrev pub deciding_statement : List Statement → Op → Context → Option Statement
+deciding_statement items op context =
+    option_and_then (λ (found : Found). found_statement items op found.which) (decision items op context)

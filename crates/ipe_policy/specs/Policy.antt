@@ -1,5 +1,5 @@
 -- A policy: its name, its version and its statements in text order.
-use Rattle.std.specs.Prelude.{ℕ, ◌+◌, ◌<◌, ◌≤◌, ⊤, IsTrue, List, length}
+use Rattle.std.specs.Prelude.{ℕ, ◌+◌, ◌<◌, ◌≤◌, ◌&&◌, nat_le, ⊤, Bool, IsTrue, List, length}
 use Rattle.std.specs.List.{AllByRecursion, filter_map}
 use Rattle.ipe_policy.specs.declared.op.Op.{Op}
 use Rattle.ipe_policy.specs.declared.op.Action.{Action}
@@ -25,6 +25,12 @@ op_defaults op items = filter_map (op_default_of op) items
 -- the global defaults that statements give, in text order
 abbrev pub global_defaults : List Statement → List Action
 global_defaults items = filter_map global_default_of items
+
+-- an operation has one default: at most one of its own, and one of its own or a global one
+abbrev pub has_one_default : List Statement → Op → Bool
+has_one_default items op =
+    nat_le (length (op_defaults op items)) 1
+    && nat_le 1 (length (op_defaults op items) + length (global_defaults items))
 
 -- a digest that a policy may name: the name of an algorithm, and 1 to 64 bytes
 pub record IsNamedDigest (digest : Digest) : Type 0 where

@@ -1,6 +1,6 @@
 -- The rules of the words that policies and requests are made of, each as a test of its bytes.
 use Rattle.std.specs.Prelude.{ℕ, Bool, not, ◌&&◌, ◌||◌, ◌==◌, nat_le, nat_eq, codes, List, length}
-use Rattle.std.specs.List.{list_all, starts_with}
+use Rattle.std.specs.List.{starts_with}
 use Rattle.line_words.specs.Words.{is_digit, is_lower, is_text, is_visible, is_word}
 
 -- a to z, 0 to 9 and the dash

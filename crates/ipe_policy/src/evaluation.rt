@@ -123,7 +123,7 @@ fn first_match(items: &[Statement], op: Op, context: &Context) -> Option<(u32, A
     found
 }
 
-fn op_default_of(item: &Statement, op: Op) -> Option<Action>
+pub(crate) fn op_default_of(item: &Statement, op: Op) -> Option<Action>
     ensures { result ≡ op_default_of op item.now }
 {
     match item {
@@ -132,7 +132,7 @@ fn op_default_of(item: &Statement, op: Op) -> Option<Action>
     }
 }
 
-fn global_default_of(item: &Statement) -> Option<Action>
+pub(crate) fn global_default_of(item: &Statement) -> Option<Action>
     ensures { result ≡ global_default_of item.now }
 {
     match item {

@@ -6,6 +6,7 @@
 
 mod evaluation;
 mod image;
+mod keeping;
 mod op;
 mod policy;
 mod request;

@@ -1,42 +1,18 @@
-ghost use Rattle.std.specs.Prelude.{◌≡◌, List, length};
+ghost use Rattle.std.specs.Prelude.{◌≡◌, SomeIff};
+ghost use Rattle.ipe_policy.specs.Policy.{IsPolicy};
 
+use crate::keeping::are_policy;
 use crate::{Name, Statement, Version};
+use line_words::Items;
+use std::alloc::AllocError;
 use std::marker::Model;
 
 /// The statements of a policy, in text order.
-#[derive(Debug, Drop)]
-pub struct Statements {
-    items: Vec<Statement>,
-}
-
-impl Model for Statements {
-    ghost use Rattle.std.specs.Prelude.{List};
-    ghost use Rattle.ipe_policy.specs.declared.statement.Statement.{Statement};
-
-    ghost Value = { List Statement };
-
-    ghost view = { λ s. s.items.items };
-}
-
-impl Statements {
-    /// The list with these items.
-    pub fn from_vec(items: Vec<Statement>) -> Self
-        ensures { result ≡ items.items }
-    {
-        Statements { items }
-    }
-
-    /// The items, in order.
-    pub fn as_slice(&self) -> &[Statement]
-        ensures { result.now ≡ self.now }
-    {
-        self.items.as_slice()
-    }
-}
+pub type Statements = Items<Statement>;
 
 /// A policy. No default is given twice, each operation has a default of its own or there is a global one, the digest of
 /// a property has 1 to 64 bytes, and there are at most 1,048,576 statements.
-#[derive(Debug, Drop)]
+#[derive(Debug, PartialEq, Eq, Drop)]
 pub struct Policy {
     pub name: Name,
     pub version: Version,
@@ -51,4 +27,34 @@ impl Model for Policy {
     ghost view = { λ s. record { name = s.name; version = s.version; items = s.items } };
 
     ghost invariant = { λ s. IsPolicy s.items };
+
+    ghost inverse = { λ p. record { name = p.name; version = p.version; items = p.items } };
+}
+
+impl Clone for Policy {
+    ghost is_clone = { λ a b. b ≡ a };
+
+    fn clone(&self) -> Result<Self, AllocError> {
+        Ok(Policy {
+            name: self.name.clone()?,
+            version: self.version,
+            items: self.items.clone()?,
+        })
+    }
+}
+
+impl Policy {
+    /// The policy with these statements, where they keep the rules of a policy.
+    pub fn new(name: Name, version: Version, items: Statements) -> Option<Policy>
+        ensures { SomeIff result (IsPolicy items) (record { name = name; version = version; items = items }) }
+    {
+        if !are_policy(items.as_slice()) {
+            return None;
+        }
+        Some(Policy {
+            name,
+            version,
+            items,
+        })
+    }
 }

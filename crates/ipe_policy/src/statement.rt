@@ -1,6 +1,8 @@
-ghost use Rattle.std.specs.Prelude.{◌≡◌, ◌≤◌, List, ℕ, length, vec_len};
+ghost use Rattle.std.specs.Prelude.{◌≡◌, ◌≤◌, List, ℕ, length, vec_len, ⊤};
 
 use crate::{Action, AlgName, DigestBytes, Op};
+use line_words::Items;
+use std::alloc::AllocError;
 use std::marker::Model;
 
 /// A digest with the name of its algorithm.
@@ -11,7 +13,7 @@ pub struct Digest {
 }
 
 /// A condition of a rule.
-#[derive(Debug, Drop)]
+#[derive(Debug, PartialEq, Eq, Drop)]
 pub enum Property {
     BootVerified(bool),
     DmverityRoothash(Digest),
@@ -20,10 +22,26 @@ pub enum Property {
     FsveritySignature(bool),
 }
 
+impl Clone for Property {
+    ghost is_clone = { λ a b. b ≡ a };
+
+    ghost is_infallible = { λ _. ⊤ };
+
+    fn clone(&self) -> Result<Self, AllocError> {
+        Ok(match self {
+            Property::BootVerified(wanted) => Property::BootVerified(*wanted),
+            Property::DmverityRoothash(digest) => Property::DmverityRoothash(digest.clone()?),
+            Property::DmveritySignature(wanted) => Property::DmveritySignature(*wanted),
+            Property::FsverityDigest(digest) => Property::FsverityDigest(digest.clone()?),
+            Property::FsveritySignature(wanted) => Property::FsveritySignature(*wanted),
+        })
+    }
+}
+
 /// The properties of a rule, in text order: at most 16.
-#[derive(Debug, Drop)]
+#[derive(Debug, PartialEq, Eq, Drop)]
 pub struct Properties {
-    items: Vec<Property>,
+    items: Items<Property>,
 }
 
 impl Model for Properties {
@@ -32,9 +50,21 @@ impl Model for Properties {
 
     ghost Value = { List Property };
 
-    ghost view = { λ s. s.items.items };
+    ghost view = { λ s. s.items };
 
-    ghost invariant = { λ s. length s.items.items ≤ 16 };
+    ghost invariant = { λ s. length s.items ≤ 16 };
+
+    ghost inverse = { λ items. record { items = items } };
+}
+
+impl Clone for Properties {
+    ghost is_clone = { λ a b. b ≡ a };
+
+    fn clone(&self) -> Result<Self, AllocError> {
+        Ok(Properties {
+            items: self.items.clone()?,
+        })
+    }
 }
 
 impl Properties {
@@ -46,7 +76,9 @@ impl Properties {
         requires { vec_len items ≤ 16 }
         ensures { result ≡ items.items }
     {
-        Properties { items }
+        Properties {
+            items: Items::from_vec(items),
+        }
     }
 
     /// The items, in order.
@@ -59,7 +91,7 @@ impl Properties {
 }
 
 /// A statement of a policy.
-#[derive(Debug, Drop)]
+#[derive(Debug, PartialEq, Eq, Drop)]
 pub enum Statement {
     Rule {
         op: Op,
@@ -73,4 +105,23 @@ pub enum Statement {
     GlobalDefault {
         action: Action,
     },
+}
+
+impl Clone for Statement {
+    ghost is_clone = { λ a b. b ≡ a };
+
+    fn clone(&self) -> Result<Self, AllocError> {
+        Ok(match self {
+            Statement::Rule { op, props, action } => Statement::Rule {
+                op: *op,
+                props: props.clone()?,
+                action: *action,
+            },
+            Statement::OpDefault { op, action } => Statement::OpDefault {
+                op: *op,
+                action: *action,
+            },
+            Statement::GlobalDefault { action } => Statement::GlobalDefault { action: *action },
+        })
+    }
 }

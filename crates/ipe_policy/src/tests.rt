@@ -220,3 +220,23 @@ fn prints(rt: HostRuntime) -> Result<(), Fail> {
     assert_eq!(rt; image_words(&policy), 34);
     Ok(())
 }
+
+#[test]
+fn makes_a_policy_of_statements(rt: HostRuntime) -> Result<(), Fail> {
+    let name = Name::read(b"small").expect(&rt, "a name");
+    let policy = small_policy(rt.alloc(), name.clone().unwrap(), small_digest(&rt))?;
+    let made = Policy::new(name, policy.version, policy.items.clone()?).expect(&rt, "a policy");
+    assert!(rt; made == policy.clone()?);
+    let allowing = Statement::GlobalDefault {
+        action: Action::Allow,
+    };
+    let denying = Statement::GlobalDefault {
+        action: Action::Deny,
+    };
+    let twice = Statements::from_vec(vec![in rt.alloc(); denying.clone()?, allowing]?);
+    assert!(rt; Policy::new(made.name.clone().unwrap(), made.version, twice).is_none());
+    let once = Statements::from_vec(vec![in rt.alloc(); denying]?);
+    let other = Policy::new(made.name.clone().unwrap(), made.version, once).expect(&rt, "a policy");
+    assert!(rt; other != made);
+    Ok(())
+}

@@ -1,4 +1,5 @@
 use Rattle.ipe_image.proofs.Policies.{decide-alike, parts-complete}
+use Rattle.ipe_image.proofs.DecidingStatements.{one-statement}
 use Rattle.ipe_image.proofs.OfPolicies.{of-policy}
 use Rattle.ipe_image.proofs.Roundtrip.{image-back}
 use Rattle.ipe_image.specs.Parts.{parts_of}
@@ -12,3 +13,6 @@ returns-clause-policies c = of-policy
 
 pub returns-clause-decides : goal.returns-clause-decides
 returns-clause-decides c = decide-alike
+
+pub returns-clause-statement : goal.returns-clause-statement
+returns-clause-statement c = one-statement
