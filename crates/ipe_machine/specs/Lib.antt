@@ -4,3 +4,4 @@ pub mod Answer
 pub mod Machine
 pub mod Run
 pub mod Law
+pub mod Epochs

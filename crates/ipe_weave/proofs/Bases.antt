@@ -1,0 +1,50 @@
+-- The basis of a run on one thread has its laws.
+use Rattle.std.proofs.Common.{◌≡◌, ℕ, List, Option, Some, None, refl, ap, ◌∙◌}
+use Rattle.ipe_policy.specs.declared.evaluation.Context.{Context}
+use Rattle.ipe_policy.specs.declared.op.Op.{Op}
+use Rattle.ipe_machine.specs.declared.event.CoreRuling.{CoreRuling}
+use Rattle.ipe_machine.specs.Policies.{Loaded, active_entry}
+use Rattle.ipe_machine.specs.Answer.{Verdicts}
+use Rattle.ipe_machine.specs.Machine.{Machine, ruling_at}
+use Rattle.ipe_records.specs.Records.{access_for}
+use Rattle.ipe_policy.specs.Request.{evaluated_op}
+use Rattle.ipe_machine.specs.Epochs.{CommandsStayOrBegin}
+use Rattle.ipe_gate_rule.specs.declared.event.Event.{Event}
+use Rattle.ipe_gate_rule.specs.History.{epoch_of}
+use Rattle.ipe_weave.specs.Lines.{Access, hook_reply, ruled}
+use Rattle.ipe_weave.specs.Standing.{IsLike}
+use Rattle.ipe_weave.specs.Run.{machine_at, claimed_by, run_basis}
+use Rattle.ipe_weave.proofs.Founded.{IsBasis, Founded}
+
+-- the ruling and the record of a claim depend on no more of a machine than a history tells
+ruled_alike : (machine : Machine) (h : List Event) (entry : Option Loaded) (op : Op) (context : Context) → IsLike machine h → ruling_at (machine_at h) entry op context ≡ ruling_at machine entry op context
+ruled_alike machine h None op context like = rw (like.epoch, like.count, like.enforce) refl
+ruled_alike machine h (Some entry) op context like = rw (like.epoch, like.count, like.enforce, like.success) refl
+
+recorded_alike : (machine : Machine) (h : List Event) (access : Access) (op : Option Op) (entry : Option Loaded) → IsLike machine h
+    → access_for (machine_at h) access.request access.subject access.object access.context op entry ≡ access_for machine access.request access.subject access.object access.context op entry
+recorded_alike machine h access None entry like = refl
+recorded_alike machine h access (Some op) None like = refl
+recorded_alike machine h access (Some op) (Some entry) like = rw (like.enforce, like.success) refl
+
+run_answers : (verdicts : Verdicts) (in_epoch : ℕ → Option Loaded) (machine : Machine) (h : List Event) (op : Op) (access : Access) → IsLike machine h → in_epoch (epoch_of h) ≡ active_entry machine.policies
+    → claimed_by h (in_epoch (epoch_of h)) op access ≡ hook_reply machine (Some op) access
+run_answers verdicts in_epoch machine h op access like shows =
+    ap (λ (entry : Option Loaded). claimed_by h entry op access) shows
+    ∙ ap (λ (r : CoreRuling). ruled r (access_for (machine_at h) access.request access.subject access.object access.context (evaluated_op access.request) (active_entry machine.policies))) (ruled_alike machine h (active_entry machine.policies) op access.context like)
+    ∙ ap (λ (r : Option (List ℕ)). ruled (ruling_at machine (active_entry machine.policies) op access.context) r) (recorded_alike machine h access (evaluated_op access.request) (active_entry machine.policies) like)
+
+pub run_laws : (verdicts : Verdicts) (in_epoch : ℕ → Option Loaded) → in_epoch 0 ≡ None → IsBasis (run_basis verdicts in_epoch)
+run_laws verdicts in_epoch none = record {
+  at_start = none;
+  at_claim = λ p h entry shows. shows;
+  at_return = λ p h entry shows. shows;
+  at_look = λ s h entry shows. shows;
+  at_store = λ s i w h entry allowed shows. absurd allowed;
+  at_switch = λ s e u h policies begins. begins;
+  answers = run_answers verdicts in_epoch;
+}
+
+-- the same with the law of the machine's commands
+abbrev pub founded_run : CommandsStayOrBegin → Verdicts → (in_epoch : ℕ → Option Loaded) → in_epoch 0 ≡ None → Founded
+founded_run commands verdicts in_epoch none = record { basis = run_basis verdicts in_epoch; laws = run_laws verdicts in_epoch none; commands = commands }

@@ -1,0 +1,16 @@
+pub mod Founded
+pub mod Agree
+pub mod Future
+pub mod Groups
+pub mod Ran
+pub mod Walk
+pub mod Lead
+pub mod Phase
+pub mod Whole
+pub mod Quiet
+pub mod Loops
+pub mod Rounds
+pub mod Bases
+pub mod FileRun
+pub mod InEpoch
+pub mod Printing

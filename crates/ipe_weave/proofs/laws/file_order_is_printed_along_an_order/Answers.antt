@@ -1,0 +1,5 @@
+use Rattle.ipe_weave.proofs.Printing.{run_is_along}
+use Rattle.ipe_weave.proofs.laws.file_order_is_printed_along_an_order.Goals as goal
+
+pub returns : goal.returns
+returns c = λ verdicts workers script printed commands numbered is. run_is_along commands verdicts workers script numbered printed is

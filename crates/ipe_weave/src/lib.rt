@@ -1,0 +1,12 @@
+//! The order in which the lines of a request file's phases are printed, and the history that stands for it: definitions
+//! and laws, for any number of workers and phases.
+//!
+//! What a line asks and what the machine replies is told in specs/Lines.antt. A history of atomic steps stands for an
+//! order (specs/Standing.antt) where its switches are those of the commands that raise the epoch and its claims those
+//! of the hooks that are evaluated. What a history shows of the active policy is told by a basis (specs/Basis.antt):
+//! that of a run on one thread stands in specs/Run.antt. The laws hold over any basis that meets proofs/Founded.antt.
+#![tactic(auto)]
+
+mod laws;
+
+pub use laws::{file_order_can_be_printed, file_order_is_printed_along_an_order};
