@@ -1,5 +1,5 @@
 -- What devices hold, by their names.
-use Rattle.std.specs.Prelude.{◌≡◌, ℕ, ◌<◌, ◌≤◌, List, length, take, drop, Option, Some, None, IfSome, bytes_eq}
+use Rattle.std.specs.Prelude.{◌≡◌, ℕ, ◌<◌, ◌≤◌, List, length, take, drop, Option, Some, None, IfSome, IsSomeAnd, bytes_eq}
 use Rattle.std.specs.Option.{option_map}
 use Rattle.std.specs.Map.{lookup}
 
@@ -14,6 +14,14 @@ content name items = lookup (bytes_eq name) items
 -- where the contents are told, a device has the name, and has so many bytes
 abbrev pub HasSize : Option Contents → List ℕ → ℕ → Type 0
 HasSize told name size = IfSome told (λ items. option_map length (content name items) ≡ Some size)
+
+-- where the contents are told, a device has the name, and this is true of its bytes
+abbrev pub OnDevice : Option Contents → List ℕ → (List ℕ → Type 0) → Type 0
+OnDevice told name P = IfSome told (λ items. IsSomeAnd (content name items) P)
+
+-- where the contents are told, a device has the name
+abbrev pub HasDevice : Option Contents → List ℕ → Type 0
+HasDevice told name = OnDevice told name (λ _. Unit {0})
 
 -- where the contents are told, no device has the name
 abbrev pub HasNone : Option Contents → List ℕ → Type 0

@@ -1,5 +1,5 @@
 -- Devices in memory, with a plan of the calls that fail.
-use Rattle.std.specs.Prelude.{ℕ, ◌+◌, ◌-◌, ◌^◌, min, Bool, cond, List, ◌++◌, length, take, drop, Option, Some, None, Result, Ok, Err}
+use Rattle.std.specs.Prelude.{ℕ, ◌-◌, min, Bool, cond, List, ◌++◌, length, take, drop, Option, Some, None, Result, Ok, Err}
 use Rattle.ipe_words.specs.Count.{counted}
 use Rattle.ipe_words.specs.Memory.{is_planned}
 use Rattle.blk_device.specs.Contents.{Contents}
@@ -13,18 +13,14 @@ pub record Planned : Type 0 where
   pub calls : ℕ
   pub faults : ℕ
 
--- the number of the next call; at the end of its type, 2^32 - 1, it stands still
-abbrev pub next_call : Planned → ℕ
-next_call devices = min (devices.calls + 1) (2 ^ 32 - 1)
-
 -- the next call fails: it is planned to
 abbrev pub call_fails : Planned → Bool
-call_fails devices = is_planned devices.plan (next_call devices)
+call_fails devices = is_planned devices.plan (counted devices.calls)
 
 -- the devices after the next call
 abbrev pub after_call : Planned → Planned
 after_call devices = record devices {
-  calls = next_call devices;
+  calls = counted devices.calls;
   faults = cond (call_fails devices) (counted devices.faults) devices.faults;
 }
 

@@ -1,6 +1,7 @@
 ghost use Rattle.blk_device.specs.Contents.{CanRead, HasBytes, HasNone, HasSize, content};
 ghost use Rattle.blk_device.specs.Planned.{after_call, buffer_of, call_fails, count_of, size_of};
 ghost use Rattle.ipe_words.specs.Count.{Rose};
+ghost use Rattle.ipe_words.specs.Memory.{is_planned};
 ghost use Rattle.std.specs.Prelude.{◌≡◌, ◌<◌, ◌≤◌, Some, Err, length, take, IfOk, IsErrOf, if◌then◌else◌};
 
 use super::image::copy_from;
@@ -12,7 +13,7 @@ use std::marker::Model;
 pub struct MemoryDevices {
     items: NamedBytes,
     plan: Vec<u32>,
-    calls: u32,
+    calls: u64,
     faults: u64,
 }
 
@@ -44,12 +45,19 @@ impl MemoryDevices {
         ensures never_falls { self.old.faults ≤ self.new.faults }
     {
         self.calls = self.calls.saturating_add(1);
-        let fails = self.plan.contains(&self.calls);
+        let fails = contains_call(self.plan.as_slice(), self.calls);
         if fails {
             self.faults = self.faults.saturating_add(1);
         }
         fails
     }
+}
+
+// Whether the plan names the call of this number.
+fn contains_call(plan: &[u32], call: u64) -> bool
+    ensures { result ≡ is_planned plan.now call }
+{
+    plan.iter().any(|planned| u64::from(*planned) == call)
 }
 
 impl Devices for MemoryDevices {

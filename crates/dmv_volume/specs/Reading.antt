@@ -1,11 +1,9 @@
 -- Reading blocks through a verity volume.
-use Rattle.std.specs.Prelude.{◌≡◌, ℕ, ◌+◌, ◌*◌, List, [], ◌∷◌, ◌++◌, Option, IfSome}
-use Rattle.std.specs.Fork.{slice_chunk}
-use Rattle.blk_device.specs.Contents.{Contents, content}
+use Rattle.std.specs.Prelude.{ℕ, ◌+◌, ◌*◌, List}
 use Rattle.hash_tree.specs.declared.algorithm.HashAlgorithm.TheVariants.{Sha256}
 use Rattle.hash_tree.specs.Shape.{tree_blocks}
-use Rattle.hash_path.specs.Blocks.{Blocks}
-use Rattle.hash_path.specs.Stored.{Stored, fan_of, held_blocks, levels_of}
+use Rattle.stored_tree.specs.Blocks.{Blocks, HasRoomFor}
+use Rattle.stored_tree.specs.Stored.{Stored, fan_of}
 use Rattle.dmv_volume.specs.Table.{HasLimits, TableParts}
 
 -- a volume: its table, and the path that the last call read, from the top down
@@ -33,19 +31,7 @@ data_need table = table.blocks * table.block_size
 abbrev pub hash_need : TableParts → ℕ
 hash_need table = (table.hash_start + tree_blocks (fan_of (tree_of table)) table.blocks) * table.block_size
 
--- where the contents are told and both devices of a table are there, this is true of their bytes
-abbrev pub OfBoth : Option Contents → TableParts → (List ℕ → List ℕ → Type 0) → Type 0
-OfBoth told table P =
-    IfSome told (λ items.
-    IfSome (content table.device items) (λ bytes. IfSome (content table.hash_device items) (λ hashes. P bytes hashes)))
-
--- the path to block i that the devices hold: the hash blocks, and the block of the data
-abbrev pub held_path : TableParts → List ℕ → List ℕ → ℕ → List (List ℕ)
-held_path table bytes hashes i =
-    held_blocks (tree_of table) hashes i ++ slice_chunk bytes table.block_size i ∷ []
-
--- what is true of every volume: its table has its limits, and there is room for one path
-pub record IsAttached (table : TableParts) (path : Blocks) : Type 0 where
+-- what is true of every volume: its table has its limits, and there is room for its paths
+pub record IsAttached (table : TableParts) (space : Blocks) : Type 0 where
   pub limits : HasLimits table
-  pub size : path.size ≡ table.block_size
-  pub room : path.room ≡ levels_of (tree_of table) + 1
+  pub room : HasRoomFor space (tree_of table)

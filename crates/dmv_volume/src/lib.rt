@@ -4,12 +4,11 @@
 //! the path to the data against what the block above it says, or the root, before it takes the next one.
 #![tactic(auto)]
 
-mod reading;
 mod table;
 mod volume;
 mod words;
 
-pub use hash_path::BlockPath;
+pub use stored_tree::BlockPath;
 pub use table::{Table, TableError, lines_are_whole_or_have_one_bad_word};
 pub use volume::Volume;
 

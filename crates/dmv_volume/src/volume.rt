@@ -1,25 +1,25 @@
-ghost use Rattle.blk_device.specs.Contents.{HasAtLeast, HasNone};
-ghost use Rattle.dmv_volume.specs.Reading.{OfBoth, data_need, hash_need, held_path, tree_of};
+ghost use Rattle.blk_device.specs.Contents.{HasAtLeast, HasNone, OnDevice};
+ghost use Rattle.dmv_volume.specs.Reading.{data_need, hash_need, tree_of};
 ghost use Rattle.dmv_volume.specs.Table.{HasLimits};
-ghost use Rattle.hash_path.specs.Checked.{FailsAt, IsChecked, IsOfImage, answer_of, failing};
-ghost use Rattle.hash_path.specs.Stored.{HoldsTreeOf};
 ghost use Rattle.ipe_words.specs.Count.{Rose};
 ghost use Rattle.std.specs.Fork.{slice_chunk};
-ghost use Rattle.std.specs.Prelude.{◌≡◌, ◌+◌, ◌*◌, ◌<◌, ◌≤◌, ◌⊎◌, ℕ, List, Ok, [], length, replicate, slice_index_or, take, IfOk};
+ghost use Rattle.std.specs.Prelude.{◌≡◌, ◌<◌, ◌≤◌, ◌⊎◌, ℕ, List, Ok, [], length, replicate, slice_index_or, take, IfOk};
 ghost use Rattle.std.specs.Prelude.{IsErrOf, OnErr, OnOk};
+ghost use Rattle.stored_tree.specs.Checked.{FailsAt, IsChecked, IsOfImage, IsRightSoFar, answer_of, failing};
+ghost use Rattle.stored_tree.specs.Stored.{HoldsTreeOf, OfBoth, TakenFrom, held_path, levels_of};
 
-use crate::reading::take_path;
 use crate::{BlockPath, Table};
 use blk_device::{Devices, VerityError};
-use dmv_tree::layout;
+use hash_tree::HashAlgorithm;
 use std::alloc::{AllocError, Global};
 use std::marker::Model;
+use stored_tree::{PathReader, StoredTree};
 
 /// A verity volume: blocks are read through it from devices, and each is checked in the call that reads it.
 #[derive(Debug, Drop)]
 pub struct Volume {
     table: Table,
-    path: BlockPath,
+    reader: PathReader,
 }
 
 impl Model for Volume {
@@ -27,9 +27,9 @@ impl Model for Volume {
 
     ghost Value = { Attached };
 
-    ghost view = { λ s. record { table = s.table; path = s.path.items } };
+    ghost view = { λ s. record { table = s.table; path = s.reader.items } };
 
-    ghost invariant = { λ s. IsAttached s.table s.path };
+    ghost invariant = { λ s. IsAttached s.table s.reader };
 }
 
 impl Volume {
@@ -39,11 +39,10 @@ impl Volume {
         ensures limits { IfOk result (λ volume. HasLimits volume.table) }
         ensures path { IfOk result (λ volume. volume.path ≡ []) }
     {
-        let size = table.block_size();
-        let levels = layout(table.blocks(), size).levels;
-        let path = BlockPath::new(alloc, size as usize, usize::from(levels) + 1)?;
+        let blocks = table.blocks();
+        let reader = PathReader::new(alloc, table.block_size(), blocks, HashAlgorithm::Sha256)?;
         let table = table.copy(alloc)?;
-        Ok(Volume { table, path })
+        Ok(Volume { table, reader })
     }
 
     /// Reads block `i` into `out`, which has the size of a block. The blocks of its path are taken from the devices in
@@ -70,22 +69,29 @@ impl Volume {
         ensures corrupt { (level b : ℕ) → IsErrOf result (VerityError.Corrupt level b) →
             FailsAt (tree_of self.old.table) i self.new.path level b }
 
-        // A device answered so.
+        // A device answered so; no block that was taken before fails. Of one block the hash device isn't asked.
         ensures missing { IsErrOf result VerityError.Missing → HasNone (D.contents dev.old) self.old.table.device
-            ⊎ HasNone (D.contents dev.old) self.old.table.hash_device }
+            ⊎ ((0 < levels_of (tree_of self.old.table)) × HasNone (D.contents dev.old) self.old.table.hash_device) }
         ensures failed { IsErrOf result VerityError.DeviceFault → Rose (D.faults dev.old) (D.faults dev.new) }
+        ensures right { IsErrOf result VerityError.DeviceFault ⊎ IsErrOf result VerityError.Missing →
+            IsRightSoFar (tree_of self.old.table) i self.new.path }
 
-        // The path is the front of the one that the devices hold, and unless one failed the answer is what that says.
-        ensures held { OfBoth (D.contents dev.old) self.old.table (λ bytes hashes. self.new.path
-            ≡ take (length self.new.path) (held_path self.old.table bytes hashes i)) }
-        ensures answer { OfBoth (D.contents dev.old) self.old.table (λ bytes hashes.
+        // What was taken is what the devices hold, each of which is there if a block of it was taken.
+        ensures hashes { TakenFrom (D.contents dev.old) (tree_of self.old.table) i
+            (take (levels_of (tree_of self.old.table)) self.new.path) }
+        ensures data { levels_of (tree_of self.old.table) < length self.new.path →
+            OnDevice (D.contents dev.old) self.old.table.device (λ bytes.
+            slice_index_or self.new.path (levels_of (tree_of self.old.table)) []
+            ≡ slice_chunk bytes self.old.table.block_size i) }
+
+        // Unless a device failed, the answer is what the path that they hold says.
+        ensures answer { OfBoth (D.contents dev.old) self.old.table.device (tree_of self.old.table) (λ bytes hashes.
             (IsErrOf result VerityError.DeviceFault → ⊥) →
-            result ≡ answer_of (failing (tree_of self.old.table) i
-            (held_path self.old.table bytes hashes i))) }
+            result ≡ answer_of (failing (tree_of self.old.table) i (held_path (tree_of self.old.table) bytes hashes i))) }
 
         // Where the devices hold an image and its tree under the root, only a device's failure is an error.
-        ensures complete { OfBoth (D.contents dev.old) self.old.table (λ bytes hashes. (image : List (List ℕ)) →
-            HoldsTreeOf (tree_of self.old.table) hashes image →
+        ensures complete { OfBoth (D.contents dev.old) self.old.table.device (tree_of self.old.table) (λ bytes hashes.
+            (image : List (List ℕ)) → HoldsTreeOf (tree_of self.old.table) hashes image →
             slice_chunk bytes self.old.table.block_size i ≡ slice_index_or image i [] →
             (IsErrOf result VerityError.DeviceFault → ⊥) → result ≡ Ok tt) }
         ensures cleared { OnErr result (out.new ≡ replicate (length out.old) 0) }
@@ -93,7 +99,10 @@ impl Volume {
         ensures never_falls { D.faults dev.old ≤ D.faults dev.new }
         ensures kept { self.new ≡ record self.old { path = self.new.path } }
     {
-        let read = take_path(&self.table, &mut self.path, dev, i, out);
+        let tree = stored_tree(&self.table);
+        let read = self
+            .reader
+            .read_block(&tree, self.table.device(), dev, i, out);
         if read.is_err() {
             out.fill(0);
         }
@@ -104,6 +113,21 @@ impl Volume {
     pub fn path(&self) -> &BlockPath
         ensures { result.now.items ≡ self.now.path }
     {
-        &self.path
+        self.reader.path()
+    }
+}
+
+// The tree that a table says.
+fn stored_tree<'a>(table: &'a Table) -> StoredTree<'a>
+    ensures { result ≡ tree_of table.now }
+{
+    StoredTree {
+        device: table.hash_device(),
+        start: table.hash_start() * u64::from(table.block_size()),
+        block_size: table.block_size(),
+        blocks: table.blocks(),
+        algorithm: HashAlgorithm::Sha256,
+        root: table.root(),
+        salt: table.salt(),
     }
 }

@@ -1,5 +1,5 @@
 -- What a call of `check_block` answers.
-use Rattle.std.proofs.Common.{◌≡◌, ℕ, ◌<◌, ◌≤◌, List, [], ◌∷◌, ◌++◌, length, take, get_or, Option, Result, Ok, Err, ap, sym, ◌∙◌, arith, inl, inr}
+use Rattle.std.proofs.Common.{◌≡◌, ℕ, ◌<◌, ◌≤◌, List, [], ◌∷◌, ◌++◌, length, take, get_or, Option, None, Some, Result, Ok, Err, ap, sym, ◌∙◌, arith, inl, inr}
 use Rattle.std.specs.Prelude.{IsErrOf, IsTrue, OnOk}
 use Rattle.std.specs.Int.{div_ceil}
 use Rattle.std.proofs.lemmas.Bool.{cases_lt}
@@ -9,28 +9,12 @@ use Rattle.blk_device.specs.declared.devices.VerityError.TheVariants.{DeviceFaul
 use Rattle.fsv_tree.specs.Blocks.{is_block_size}
 use Rattle.fsv_tree.proofs.Counts.{size_cases}
 use Rattle.fsv_tree.proofs.Files.{root_some}
-use Rattle.hash_path.specs.Checked.{IsOfImage, answer_of, failing}
-use Rattle.hash_path.specs.Stored.{HoldsTreeOf, IsStored, OfBytes, Stored, held_blocks, levels_of}
-use Rattle.hash_path.proofs.Answering.{front_whole}
-use Rattle.hash_path.proofs.HeldTrees.{held_right}
-use Rattle.hash_path.proofs.Walking.{of_both}
+use Rattle.stored_tree.specs.Checked.{IsOfImage}
+use Rattle.stored_tree.specs.Stored.{HoldsTreeOf, OfHashes}
 use Rattle.hash_tree.specs.Tree.{data_blocks}
 use Rattle.hash_tree.proofs.Bytes.{length-data_blocks}
 use Rattle.hash_tree.proofs.Numbers.{div_ceil_none}
 use Rattle.fsv_file.specs.File.{Attached, IsOfFile, block_size_of, blocks_of, tree_of}
-
--- all of them and the block are the path
-pub whole_path : (told : Option Contents) (tree : Stored) (i : ℕ) (taken : List (List ℕ)) (block : List ℕ) →
-    length taken ≡ levels_of tree →
-    OfBytes told tree.device (λ bytes. taken ≡ take (length taken) (held_blocks tree bytes i)) →
-    OfBytes told tree.device (λ bytes.
-    taken ++ block ∷ [] ≡ take (length (taken ++ block ∷ [])) (held_blocks tree bytes i ++ block ∷ []))
-whole_path told tree i taken block all held =
-    of_both told tree.device
-    (λ bytes. taken ≡ take (length taken) (held_blocks tree bytes i))
-    (λ bytes. taken ≡ take (length taken) (held_blocks tree bytes i))
-    (λ bytes. taken ++ block ∷ [] ≡ take (length (taken ++ block ∷ [])) (held_blocks tree bytes i ++ block ∷ []))
-    (λ bytes is _. front_whole tree bytes i taken block all is) held held
 
 -- a block of each image is a block of each file
 pub of_file : (file : Attached) (i : ℕ) (taken : List (List ℕ)) (block : List ℕ) →
@@ -52,30 +36,17 @@ of_file file i taken block is inside image bytes count declared =
     ]
 
 -- nothing fails where the device holds the tree of a file
-pub complete : (told : Option Contents) (file : Attached) (i : ℕ) (block : List ℕ)
-    (result : Result (Unit {0}) VerityError) → IsStored (tree_of file) → i < blocks_of file.descriptor →
-    OfBytes told file.device (λ bytes. (IsErrOf result DeviceFault → ⊥) →
-    result ≡ answer_of (failing (tree_of file) i (held_blocks (tree_of file) bytes i ++ block ∷ []))) →
-    OfBytes told file.device (λ bytes. (all : List ℕ) → length all ≡ file.descriptor.size →
+pub complete : (told : Option Contents) (file : Attached) (block : List ℕ) (i : ℕ)
+    (result : Result (Unit {0}) VerityError) →
+    OfHashes told (tree_of file) (λ hashes. (image : List (List ℕ)) → HoldsTreeOf (tree_of file) hashes image →
+    block ≡ get_or image i [] → (IsErrOf result DeviceFault → ⊥) → result ≡ Ok tt) →
+    OfHashes told (tree_of file) (λ bytes. (all : List ℕ) → length all ≡ file.descriptor.size →
     HoldsTreeOf (tree_of file) bytes (data_blocks (block_size_of file.descriptor) all) →
     block ≡ get_or (data_blocks (block_size_of file.descriptor) all) i [] →
     (IsErrOf result DeviceFault → ⊥) → result ≡ Ok tt)
-complete told file i block result stored inside answer =
-    let tree = tree_of file in
-    let size = block_size_of file.descriptor in
-    of_both told file.device
-    (λ bytes. (IsErrOf result DeviceFault → ⊥) →
-    result ≡ answer_of (failing tree i (held_blocks tree bytes i ++ block ∷ [])))
-    (λ bytes. (IsErrOf result DeviceFault → ⊥) →
-    result ≡ answer_of (failing tree i (held_blocks tree bytes i ++ block ∷ [])))
-    (λ bytes. (all : List ℕ) → length all ≡ file.descriptor.size → HoldsTreeOf tree bytes (data_blocks size all) →
-    block ≡ get_or (data_blocks size all) i [] → (IsErrOf result DeviceFault → ⊥) → result ≡ Ok tt)
-    (λ bytes answered _ all count holds same sound.
-    let right = held_right tree bytes (data_blocks size all) i stored holds inside in
-    answered sound
-    ∙ (ap (λ x. answer_of (failing tree i (held_blocks tree bytes i ++ x ∷ []))) same
-    ∙ ap answer_of right.1))
-    answer answer
+complete None file block i result whole = tt
+complete (Some items) file block i result whole = λ hashes known all count holds same sound.
+    whole hashes known (data_blocks (block_size_of file.descriptor) all) holds same sound
 
 -- what follows from what an `Ok` says
 pub after_ok : (result : Result (Unit {0}) VerityError) (P Q : Type 0) → (P → Q) → OnOk result P → OnOk result Q

@@ -8,8 +8,8 @@ use Rattle.hash_tree.specs.Path.{Shown, path}
 use Rattle.hash_tree.specs.declared.algorithm.HashAlgorithm.TheVariants.{Sha256}
 use Rattle.hash_tree.specs.Hash.{sha256_hash}
 use Rattle.hash_tree.specs.Tree.{data_blocks}
-use Rattle.hash_path.specs.Blocks.{Blocks}
-use Rattle.hash_path.specs.Stored.{Stored, held_blocks, levels_of}
+use Rattle.stored_tree.specs.Blocks.{Blocks, HasRoomFor}
+use Rattle.stored_tree.specs.Stored.{Stored, held_blocks}
 
 -- a file whose blocks are checked: its descriptor, the name of the device that has its stored tree, the byte at which
 -- the tree begins there, and the path that the last call took, from the top down
@@ -53,9 +53,7 @@ IsOfFile file i taken block =
     (block ≡ slice_index_or (data_blocks size bytes) i [])
     ⊎ Shown sha256_hash (block_salt salt) (path sha256_hash size (block_salt salt) (data_blocks size bytes) i) taken
 
--- what is true of every file whose blocks are checked: there is space for one path and one hash block
-pub record IsAttached (file : Attached) (space : Blocks) (block : List ℕ) : Type 0 where
+-- what is true of every file whose blocks are checked: there is room for its paths
+pub record IsAttached (file : Attached) (space : Blocks) : Type 0 where
   pub tree_at : file.tree_at ≤ 16777216
-  pub size : space.size ≡ block_size_of file.descriptor
-  pub room : space.room ≡ levels_of (tree_of file) + 1
-  pub buffer : length block ≡ block_size_of file.descriptor
+  pub room : HasRoomFor space (tree_of file)

@@ -4,7 +4,7 @@
 mod file;
 
 pub use file::FsvFile;
-pub use hash_path::BlockPath;
+pub use stored_tree::BlockPath;
 
 #[cfg(test)]
 mod tests;

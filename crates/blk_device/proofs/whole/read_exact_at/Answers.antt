@@ -2,7 +2,7 @@ use Rattle.std.proofs.Common.{◌≡◌, ◌+◌, ◌-◌, ◌≤◌, length, ta
 use borrow.Rule.Slice.PartMut.{put_mid, same_len_mid}
 use Rattle.std.proofs.lemmas.Slice.{take-put_mid}
 use Rattle.std.proofs.lemmas.List.{length-take, length-drop}
-use Rattle.blk_device.proofs.Filling.{filled_more}
+use Rattle.blk_device.proofs.Filling.{filled_more, filled_whole}
 use Rattle.blk_device.proofs.whole.read_exact_at.Goals as goal
 
 pub loop-done-preserved : goal.loop-done-preserved
@@ -25,3 +25,8 @@ loop-done-preserved g c =
       same = c.in_ok-count.ensures.same ∙ c.loop-done.invariant.same;
       faults = omega (arith, c.loop-done.invariant.faults, c.in_ok-count.ensures.never_falls);
     }
+
+pub returns-clause-bytes : goal.returns-clause-bytes
+returns-clause-bytes g c =
+    filled_whole (g.D.Devices.contents c.args.devices.now) c.args.name.now c.args.at c.loop-done.done c.loop-done.out
+    c.loop-done.invariant.filled (omega (arith, c.loop-done-test.false)) (omega (arith, c.requires.some, c.loop-done.auto.out))

@@ -1,5 +1,0 @@
-mod Joined
-pub mod Places
-pub mod Walking
-pub mod HeldTrees
-pub mod Answering

@@ -1,5 +1,0 @@
-use Rattle.hash_path.proofs.Answering.{of_image}
-use Rattle.hash_path.proofs.law.checked_blocks_are_of_the_image.Goals as goal
-
-pub returns : goal.returns
-returns c = of_image

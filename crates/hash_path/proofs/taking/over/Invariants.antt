@@ -1,6 +1,0 @@
-use Rattle.std.proofs.Common.{◌≡◌, ◌/◌, ◌^◌}
-use Rattle.hash_path.proofs.taking.over.Given as goal
-
--- one division a level
-abbrev pub invariant-loop : goal.invariant-loop
-invariant-loop l = l.number ≡ l.fn.i / l.fan_out ^ l.counter
