@@ -22,3 +22,6 @@ pub use meeting::Closed;
 pub use opening::start;
 pub use pass::{Claimed, Pass};
 pub use slot::Slot;
+
+#[cfg(test)]
+mod tests;
