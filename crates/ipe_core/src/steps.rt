@@ -1,8 +1,9 @@
-ghost use Rattle.std.specs.Prelude.{◌≡◌, ◌<◌, ◌^◌, IsTrue, IfOk, OnErr, length};
+ghost use Rattle.std.specs.Prelude.{◌≡◌, ◌<◌, ◌^◌, IsTrue, IfOk, None, OnErr, slice_get, slice_set};
 ghost use Rattle.ipe_policy.specs.Request.{evaluated_op};
 ghost use Rattle.ipe_machine.specs.Policies.{active_entry};
 ghost use Rattle.ipe_machine.specs.Answer.{after};
-ghost use Rattle.ipe_machine.specs.Machine.{is_allowed, outcome_of, reply_to, after_event, with_policies, ruling_for, ruling_at, ruling_by, after_claim};
+ghost use Rattle.ipe_machine.specs.Machine.{is_allowed, is_free, is_holding, outcome_of, reply_to, after_event, with_policies, ruling_for, ruling_at, ruling_by, after_claim, due_for};
+ghost use Rattle.ipe_registry.specs.Change.{IsPlannedOn, answer_in, planned};
 ghost use Rattle.ipe_core.specs.Memory.{wants_memory};
 
 use crate::State;
@@ -38,9 +39,9 @@ pub fn step<S: Signer>(
             request,
             context,
             ..
-        } => Ok(Reply::Claimed(claim(state, *pass as usize, request, context))),
+        } => Ok(Reply::Claimed(claim(state, *pass, request, context))),
         Event::Return { pass } => {
-            state.held[*pass as usize] = None;
+            give_back(state, *pass);
             Ok(Reply::Returned)
         }
     }
@@ -59,27 +60,39 @@ fn run_command<S: Signer>(
     ensures err { OnErr result (state.new ≡ state.old) }
     ensures memory { OnErr result (IsTrue command.now.may) }
 {
-    let reply = match state.registry.plan(alloc, signer, command)? {
-        Plan::Refused(refusal) => Err(refusal),
-        Plan::Same(done) => Ok(done),
-        Plan::Ready(change) => {
-            if change.raises() {
-                state.count = 0;
-            }
-            Ok(state.registry.commit(change))
-        }
-    };
-    Ok(CoreOutcome {
-        epoch: state.registry.epoch(),
-        reply,
-    })
+    let plan = state.registry.plan(alloc, signer, command)?;
+    Ok(commit(state, plan))
 }
 
-// Counts a claim of an evaluated request, by which the pass holds the active policy, and rules on it.
-fn claim(state: &mut State, pass: usize, request: &Request, context: &Context) -> CoreRuling
-    requires free { pass < length state.old.held }
+/// Does what was planned on this very state (`State::registry` has `plan`), which takes no memory and can't be refused.
+/// Where the epoch rises, no claim is counted in it yet.
+pub fn commit(state: &mut State, plan: Plan) -> CoreOutcome
+    requires serial { state.old.policies.next < 2 ^ 63 }
+    requires planned { IsPlannedOn state.old.policies plan }
+    ensures reply { result.reply ≡ answer_in plan }
+    ensures epoch { result.epoch ≡ (planned state.old.policies plan).epoch }
+    ensures after { state.new ≡ with_policies state.old (planned state.old.policies plan) }
+{
+    let before = state.registry.epoch();
+    let reply = match plan {
+        Plan::Refused(refusal) => Err(refusal),
+        Plan::Same(done) => Ok(done),
+        Plan::Ready(change) => Ok(state.registry.commit(change)),
+    };
+    let epoch = state.registry.epoch();
+    if epoch != before {
+        state.count = 0;
+    }
+    CoreOutcome { epoch, reply }
+}
+
+/// Rules on a request. One that is evaluated is counted, and by it the pass holds the active policy.
+pub fn claim(state: &mut State, pass: u32, request: &Request, context: &Context) -> CoreRuling
+    requires free { IsTrue (is_free (slice_get state.old.held pass)) }
     requires few { state.old.count < 2 ^ 40 }
     ensures ruling { result ≡ ruling_for state.old (evaluated_op request.now) context.now }
+    ensures due { result.record_due
+        ≡ due_for state.old.policies (evaluated_op request.now) (active_entry state.old.policies) context.now }
     ensures after { state.new ≡ after_claim state.old pass (evaluated_op request.now) }
 {
     match request.op() {
@@ -95,11 +108,19 @@ fn claim(state: &mut State, pass: usize, request: &Request, context: &Context) -
             let ruling = ruling_at(state, op, context);
             state.count += 1;
             if let Some(serial) = ruling.serial {
-                state.held[pass] = Some(serial);
+                state.held[pass as usize] = Some(serial);
             }
             ruling
         }
     }
+}
+
+/// Returns what a pass holds.
+pub fn give_back(state: &mut State, pass: u32)
+    requires { IsTrue (is_holding (slice_get state.old.held pass)) }
+    ensures { state.new ≡ record state.old { held = slice_set state.old.held pass None } }
+{
+    state.held[pass as usize] = None;
 }
 
 // The ruling on a request that is evaluated, at the state before it is counted.

@@ -14,7 +14,8 @@ use Rattle.ipe_machine.specs.declared.answer.Done.TheVariants as done
 use Rattle.ipe_machine.specs.declared.answer.Refusal.{Refusal}
 use Rattle.ipe_machine.specs.declared.event.Event.TheVariants as event
 use Rattle.ipe_machine.specs.Policies.{Policies, Loaded, active_entry, is_active}
-use Rattle.ipe_machine.specs.Answer.{Verdicts, answer, after, after_answer, changed}
+use Rattle.ipe_machine.specs.Change.{changed}
+use Rattle.ipe_machine.specs.Answer.{Verdicts, answer, after, after_answer}
 use Rattle.ipe_machine.specs.Machine.{Machine, ruling_at, ruling_for, claimed, after_event}
 use Rattle.ipe_script.specs.declared.script.PhaseLine.{PhaseLine}
 use Rattle.ipe_script.specs.declared.script.Task.{Task}

@@ -37,9 +37,9 @@ use Rattle.ipe_machine.specs.declared.answer.Done.{Done}
 use Rattle.ipe_machine.specs.declared.answer.Done.TheVariants as done
 use Rattle.ipe_machine.specs.declared.answer.Refusal.{Refusal}
 use Rattle.ipe_machine.specs.Policies.{Policies, Loaded, active_entry, entry_named, entry_of, is_active, place_of, policy_in, replaced}
-use Rattle.ipe_machine.specs.Answer.{Verdicts, after, after_answer, answer, changed, is_true, later}
-use Rattle.ipe_machine.specs.Machine.{Machine, ruling_by}
-use Rattle.ipe_records.specs.Records.{access_by, access_for, access_of, access_under, act_records, activation_of, answer_records, brief_of, records_of}
+use Rattle.ipe_machine.specs.Change.{Change, Loads, Updates, Activates, Deletes, SetsEnforce, SetsSuccess, change_of, changed, is_true, later}
+use Rattle.ipe_machine.specs.Answer.{Verdicts, after, after_answer, answer, change_by, is_step}
+use Rattle.ipe_records.specs.Records.{access_by, access_for, access_of, access_under, activation_of, brief_of, change_records, is_access_due, records_of, records_with}
 use Rattle.ipe_history.specs.Spelled.{line_spells}
 use Rattle.ipe_history.proofs.Cuts.{All_both}
 use Rattle.ipe_history.proofs.Given.{Found, found_and_then, found_made, found_on, get_all}
@@ -236,7 +236,7 @@ found_records policies None all named = tt
 found_records policies (Some entry) all named = (activation_named policies entry all named, tt)
 
 -- the records of an act that was done
-act_recorded : (policies : Policies) (what : Act) → AreNamed policies.loaded → AreRecords (act_records policies what)
+act_recorded : (policies : Policies) (what : Act) → AreNamed policies.loaded → AreRecords (change_records policies (change_of policies what))
 act_recorded policies (act.Load text) all = (load_record (brief_of (entry_of policies.next text)) (policy_whole text).0, tt)
 act_recorded policies (act.Update name text) all =
     let entry : Loaded = entry_of policies.next text in
@@ -247,20 +247,14 @@ act_recorded policies (act.Delete name wanted) all = tt
 act_recorded policies (act.Enforce wanted) all = (enforce_record (is_true wanted), tt)
 act_recorded policies (act.SuccessAudit wanted) all = tt
 
--- the records of an answer
-answer_recorded : (policies : Policies) (what : Act) (answered : Result Done Refusal) → AreNamed policies.loaded → AreRecords (answer_records policies what answered)
-answer_recorded policies what (Err refusal) all = tt
-answer_recorded policies what (Ok done.AlreadyActive) all = tt
-answer_recorded policies what (Ok done.Same) all = tt
-answer_recorded policies what (Ok done.Loaded) all = act_recorded policies what all
-answer_recorded policies what (Ok done.Updated) all = act_recorded policies what all
-answer_recorded policies what (Ok done.Activated) all = act_recorded policies what all
-answer_recorded policies what (Ok done.Deleted) all = act_recorded policies what all
-answer_recorded policies what (Ok done.Changed) all = act_recorded policies what all
+-- the records of a change that is made or isn't
+made_recorded : (policies : Policies) (change : Change) (made : Bool) → AreRecords (change_records policies change) → AreRecords (records_with policies (cond {A = Option Change} made (Some change) None))
+made_recorded policies change true records = records
+made_recorded policies change false records = tt
 
 -- the records of a command
 pub command_recorded : (verdicts : Verdicts) (policies : Policies) (command : Command) → AreNamed policies.loaded → AreRecords (records_of verdicts policies command)
-command_recorded verdicts policies command all = answer_recorded policies command.act (answer verdicts policies command) all
+command_recorded verdicts policies command all = made_recorded policies (change_of policies command.act) (is_step (answer verdicts policies command)) (act_recorded policies command.act all)
 
 -- ---- the record of an access
 
@@ -283,30 +277,31 @@ deciding_whole parts what action (which.Rule number) all =
 deciding_whole parts what action which.OpDefault all = tt
 deciding_whole parts what action which.GlobalDefault all = tt
 
-module _ (machine : Machine) (request : Request) (subject : Subject) (file : Object) (context : Context) (named : Whole subject.comm) (whole : IsWholeObject file) where
+module _ (policies : Policies) (request : Request) (subject : Subject) (file : Object) (context : Context) (named : Whole subject.comm) (whole : IsWholeObject file) where
   -- an access that was decided
   decided_recorded : (what : Op) (entry : Loaded) (decided : found.Found)
-      → Found IsRecord (option_map (access_by machine request subject file what) (deciding (parts_of entry.serial (policy_in entry.text).items) what decided))
+      → Found IsRecord (option_map (access_by policies request subject file what) (deciding (parts_of entry.serial (policy_in entry.text).items) what decided))
   decided_recorded what entry decided =
       let items : List Statement = (policy_in entry.text).items in
-      found_made IsWholeStatement IsRecord (access_by machine request subject file what) (deciding (parts_of entry.serial items) what decided)
+      found_made IsWholeStatement IsRecord (access_by policies request subject file what) (deciding (parts_of entry.serial items) what decided)
       (deciding_whole (parts_of entry.serial items) what decided.action decided.which (rules_whole items (policy_whole entry.text).1))
-      (λ (statement : Statement) h. access_record what (hook_of request) machine.policies.enforce subject file (statement_text statement) named whole (statement_whole statement h))
+      (λ (statement : Statement) h. access_record what (hook_of request) policies.enforce subject file (statement_text statement) named whole (statement_whole statement h))
 
   -- an access that is ruled by an entry's policy
-  under_recorded : (what : Op) (entry : Loaded) → Found IsRecord (access_under machine request subject file context what entry)
+  under_recorded : (what : Op) (entry : Loaded) → Found IsRecord (access_under policies request subject file context what entry)
   under_recorded what entry =
       let record_of : found.Found → Option (List ℕ) =
-      λ decided. option_map (access_by machine request subject file what) (deciding (parts_of entry.serial (policy_in entry.text).items) what decided) in
-      found_on IsRecord (ruling_by machine entry what context).record_due (option_and_then record_of (decision (policy_in entry.text).items what context))
-      (λ due. found_and_then IsRecord record_of (decision (policy_in entry.text).items what context) (decided_recorded what entry))
+      λ decided. option_map (access_by policies request subject file what) (deciding (parts_of entry.serial (policy_in entry.text).items) what decided) in
+      found_and_then IsRecord record_of (decision (policy_in entry.text).items what context) (decided_recorded what entry)
 
   -- an access for an operation, if a policy is active
-  for_recorded : (what : Option Op) (entry : Option Loaded) → Found IsRecord (access_for machine request subject file context what entry)
+  for_recorded : (what : Option Op) (entry : Option Loaded) → Found IsRecord (access_for policies request subject file context what entry)
   for_recorded None entry = tt
   for_recorded (Some what) None = tt
   for_recorded (Some what) (Some entry) = under_recorded what entry
 
   -- the record of an access, where one is due
-  pub access_recorded : Found IsRecord (access_of machine request subject file context)
-  access_recorded = for_recorded (evaluated_op request) (active_entry machine.policies)
+  pub access_recorded : Found IsRecord (access_of policies request subject file context)
+  access_recorded =
+      found_on IsRecord (is_access_due policies request context) (access_for policies request subject file context (evaluated_op request) (active_entry policies))
+      (λ due. for_recorded (evaluated_op request) (active_entry policies))

@@ -246,7 +246,7 @@ task_recorded : (script : Script) (machine : Machine) (task : Task) → AllByRec
 task_recorded script machine (Write may node content) files worded named = write_recorded (verdicts_of script) machine (asked_by script may node content) named
 task_recorded script machine (Read node) files worded named = tt
 task_recorded script machine (Hook request subject file) files worded named =
-    access_recorded machine request subject (object_of script file) (context_of file) (word_whole 1 15 is_quotable subject.comm refl worded) (object_whole script file files)
+    access_recorded machine.policies request subject (object_of script file) (context_of file) (word_whole 1 15 is_quotable subject.comm refl worded) (object_whole script file files)
 
 -- the machine after a write
 write_named : (verdicts : Verdicts) (machine : Machine) (asked : Result Command Refusal) → IsNamedMachine machine → IsNamedMachine (after_write verdicts machine asked)

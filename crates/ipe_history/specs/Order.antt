@@ -106,7 +106,7 @@ task_reply script machine (Write may node content) =
 task_reply script machine (Read node) = told machine.policies.epoch (node_read machine.policies node)
 task_reply script machine (Hook request subject file) =
     ruled (ruling_for machine (evaluated_op request) (context_of file))
-    (access_of machine request subject (object_of script file) (context_of file))
+    (access_of machine.policies request subject (object_of script file) (context_of file))
 
 -- what a line is replied
 abbrev pub line_reply : Script → Machine → PhaseLine → LineReply

@@ -1,12 +1,11 @@
--- What each command is answered, and what it leaves: the first refusal of its list whose condition holds, else done.
-use Rattle.std.specs.Prelude.{ℕ, ◌+◌, ◌==◌, Bool, true, false, not, ◌&&◌, nat_lt, nat_le, if◌then◌else◌, List, length, Option, Some, None, is_some, is_none, Result, Ok, Err}
+-- What each command is answered: the first case of its list whose condition holds, else done.
+use Rattle.std.specs.Prelude.{ℕ, ◌==◌, Bool, true, false, not, ◌&&◌, nat_lt, nat_le, if◌then◌else◌, List, [], ◌∷◌, ◌++◌, length, Option, Some, None, is_some, is_none, Result, Ok, Err}
+use Rattle.std.specs.Result.{is_err}
 use Rattle.sha2.specs.Sha256.{sha256}
 use Rattle.ipe_policy.specs.declared.version.Version.{Version}
 use Rattle.line_words.specs.Words.{is_text}
 use Rattle.ipe_policy.specs.Version.{packed}
-use Rattle.ipe_policy.specs.Policy.{PolicyParts}
 use Rattle.ipe_policy.specs.Spelling.{words_of_image}
-use Rattle.ipe_parse.specs.declared.error.BadText.{BadText}
 use Rattle.ipe_parse.specs.Reading.{reading}
 use Rattle.ipe_signer.specs.declared.signer.Purpose.{Purpose}
 use Rattle.ipe_signer.specs.declared.signer.Purpose.TheVariants as purpose
@@ -21,8 +20,8 @@ use Rattle.ipe_machine.specs.declared.answer.Done.{Done}
 use Rattle.ipe_machine.specs.declared.answer.Done.TheVariants.{Loaded, Updated, Activated, AlreadyActive, Deleted, Changed, Same}
 use Rattle.ipe_machine.specs.declared.answer.Refusal.{Refusal}
 use Rattle.ipe_machine.specs.declared.answer.Refusal.TheVariants.{NotPermitted, TooBig, Rejected, NoKey, BadPolicy, TooWide, Exists, NoSpace, NoEntry, OtherName, Stale, EpochFull, BadValue, IsActive}
-use Rattle.ipe_machine.specs.Policies as state
-use Rattle.ipe_machine.specs.Policies.{Policies, place_of, entry_named, is_active, active_entry, entry_of, added, replaced, without}
+use Rattle.ipe_machine.specs.Policies.{Policies, entry_named, is_active, active_entry, policy_in, fault_in, entry_version}
+use Rattle.ipe_machine.specs.Change.{Change, change_of, changed, done_by, is_true}
 
 -- one verdict for each purpose and digest
 abbrev pub Verdicts : Type 0
@@ -60,130 +59,109 @@ is_unknown Revoked = false
 abbrev pub verdict_on : Verdicts → List ℕ → Verdict
 verdict_on verdicts text = verdicts purpose.Policy (sha256 text)
 
--- the policy that was read, if its image fits
-abbrev pub read_as : Result PolicyParts BadText → Result PolicyParts Refusal
-read_as (Err fault) = Err (BadPolicy fault)
-read_as (Ok policy) =
-    if nat_lt most_words (words_of_image policy.items) then Err (TooWide (words_of_image policy.items)) else Ok policy
+-- the words that the image of a text's policy needs
+abbrev pub words_in : List ℕ → ℕ
+words_in text = words_of_image (policy_in text).items
 
--- the policy that a text brings, or the first refusal that the text alone meets
-abbrev pub taken_of : Verdicts → List ℕ → Result PolicyParts Refusal
-taken_of verdicts text =
-    if nat_lt most_text (length text) then Err TooBig
-    else if is_revoked (verdict_on verdicts text) then Err Rejected
-    else if is_unknown (verdict_on verdicts text) then Err NoKey
-    else read_as (reading text)
+-- what was written is no truth value
+abbrev pub is_bad : Value → Bool
+is_bad value.True = false
+is_bad value.False = false
+is_bad value.Bad = true
 
--- a policy that was taken goes on to the next conditions
-abbrev pub when_taken : (PolicyParts → Result Done Refusal) → Result PolicyParts Refusal → Result Done Refusal
-when_taken go_on (Err refusal) = Err refusal
-when_taken go_on (Ok policy) = go_on policy
+-- what was written says the value that a switch has
+abbrev pub says : Value → Bool → Bool
+says value.True present = present
+says value.False present = not present
+says value.Bad present = false
 
--- the answer to a load that brings this policy: its name may not be loaded yet, and there is room for it
-abbrev pub load_by : Policies → PolicyParts → Result Done Refusal
-load_by policies policy =
-    if is_some (place_of policy.name policies.loaded) then Err Exists
-    else if nat_le most_loaded (length policies.loaded) then Err NoSpace
-    else Ok Loaded
+-- a condition, and what is answered where it holds
+abbrev pub Case : Type 0
+Case = Bool × Result Done Refusal
 
--- the answer to a load
-abbrev pub load_answer : Verdicts → Policies → List ℕ → Result Done Refusal
-load_answer verdicts policies text = when_taken (load_by policies) (taken_of verdicts text)
+-- the answer of the first case whose condition holds, else done
+abbrev pub answer_by : List Case → Done → Result Done Refusal
+answer_by [] done = Ok done
+answer_by (case ∷ cases) done = if case.0 then case.1 else answer_by cases done
 
--- the answer to an update of a name at this version that brings this policy: the version may not fall
-abbrev pub update_by : Policies → List ℕ → Version → PolicyParts → Result Done Refusal
-update_by policies name present policy =
-    if not (is_text name policy.name) then Err OtherName
-    else if nat_lt (packed policy.version) (packed present) then Err (Stale present policy.version)
-    else if is_active name policies && (policies.epoch == last_epoch) then Err EpochFull
-    else Ok Updated
+-- a version that is lower than the one that stands is stale
+abbrev pub stale_case : Version → Version → Case
+stale_case present offered = (nat_lt (packed offered) (packed present), Err (Stale present offered))
 
--- an update of a loaded entry
-abbrev pub update_of : Verdicts → Policies → List ℕ → List ℕ → Option state.Loaded → Result Done Refusal
-update_of verdicts policies name text None = Err NoEntry
-update_of verdicts policies name text (Some entry) =
-    when_taken (update_by policies name entry.version) (taken_of verdicts text)
+-- what a text alone meets
+abbrev pub text_cases : Verdicts → List ℕ → List Case
+text_cases verdicts text =
+    (nat_lt most_text (length text), Err TooBig)
+    ∷ (is_revoked (verdict_on verdicts text), Err Rejected)
+    ∷ (is_unknown (verdict_on verdicts text), Err NoKey)
+    ∷ (is_err (reading text), Err (BadPolicy (fault_in text)))
+    ∷ (nat_lt most_words (words_in text), Err (TooWide (words_in text)))
+    ∷ []
 
--- the answer to an update of a name
-abbrev pub update_answer : Verdicts → Policies → List ℕ → List ℕ → Result Done Refusal
-update_answer verdicts policies name text = update_of verdicts policies name text (entry_named name policies.loaded)
+-- a load: the name isn't loaded yet, and there is room
+abbrev pub load_cases : Verdicts → Policies → List ℕ → List Case
+load_cases verdicts policies text =
+    text_cases verdicts text
+    ++ (is_some (entry_named (policy_in text).name policies.loaded), Err Exists)
+    ∷ (nat_le most_loaded (length policies.loaded), Err NoSpace)
+    ∷ []
 
--- what was written says true
-abbrev pub is_true : Value → Bool
-is_true value.True = true
-is_true value.False = false
-is_true value.Bad = false
+-- an update: the version of the name's entry may not fall, and that of the active policy begins an epoch
+abbrev pub update_cases : Verdicts → Policies → List ℕ → List ℕ → List Case
+update_cases verdicts policies name text =
+    (is_none (entry_named name policies.loaded), Err NoEntry)
+    ∷ text_cases verdicts text
+    ++ (not (is_text name (policy_in text).name), Err OtherName)
+    ∷ stale_case (entry_version (entry_named name policies.loaded)) (policy_in text).version
+    ∷ (is_active name policies && (policies.epoch == last_epoch), Err EpochFull)
+    ∷ []
 
--- where a policy is active, a lower version than its own is stale, whatever the names
-abbrev pub unless_stale : Option state.Loaded → Version → Result Done Refusal → Result Done Refusal
-unless_stale None offered otherwise = otherwise
-unless_stale (Some active) offered otherwise =
-    if nat_lt (packed offered) (packed active.version) then Err (Stale active.version offered) else otherwise
+-- an activation: only true may be written, and the active version may not fall, whatever the names
+abbrev pub activation_cases : Policies → List ℕ → Value → List Case
+activation_cases policies name wanted =
+    (not (is_true wanted), Err BadValue)
+    ∷ (is_none (entry_named name policies.loaded), Err NoEntry)
+    ∷ (is_active name policies, Ok AlreadyActive)
+    ∷ stale_case (entry_version (active_entry policies)) (entry_version (entry_named name policies.loaded))
+    ∷ (policies.epoch == last_epoch, Err EpochFull)
+    ∷ []
 
--- the answer to an activation of a loaded name at this version
-abbrev pub activation_by : Policies → List ℕ → Version → Result Done Refusal
-activation_by policies name offered =
-    if is_active name policies then Ok AlreadyActive
-    else unless_stale (active_entry policies) offered
-    (if policies.epoch == last_epoch then Err EpochFull else Ok Activated)
+-- a deletion: only true may be written, and the active policy stays
+abbrev pub deletion_cases : Policies → List ℕ → Value → List Case
+deletion_cases policies name wanted =
+    (not (is_true wanted), Err BadValue)
+    ∷ (is_none (entry_named name policies.loaded), Err NoEntry)
+    ∷ (is_active name policies, Err IsActive)
+    ∷ []
 
--- an activation of a loaded entry
-abbrev pub activation_of : Policies → List ℕ → Option state.Loaded → Result Done Refusal
-activation_of policies name None = Err NoEntry
-activation_of policies name (Some entry) = activation_by policies name entry.version
+-- a switch that has this value
+abbrev pub switch_cases : Policies → Bool → Value → List Case
+switch_cases policies present wanted =
+    (is_bad wanted, Err BadValue)
+    ∷ (says wanted present, Ok Same)
+    ∷ (policies.epoch == last_epoch, Err EpochFull)
+    ∷ []
 
--- the answer to an activation of a name: only true may be written
-abbrev pub activate_answer : Policies → List ℕ → Value → Result Done Refusal
-activate_answer policies name wanted =
-    if not (is_true wanted) then Err BadValue
-    else activation_of policies name (entry_named name policies.loaded)
+-- the cases of an act of one who may administer
+abbrev pub act_cases : Verdicts → Policies → Act → List Case
+act_cases verdicts policies (Load text) = load_cases verdicts policies text
+act_cases verdicts policies (Update name text) = update_cases verdicts policies name text
+act_cases verdicts policies (Activate name wanted) = activation_cases policies name wanted
+act_cases verdicts policies (Delete name wanted) = deletion_cases policies name wanted
+act_cases verdicts policies (Enforce wanted) = switch_cases policies policies.enforce wanted
+act_cases verdicts policies (SuccessAudit wanted) = switch_cases policies policies.success wanted
 
--- the answer to a deletion of a name: only true may be written, and the active policy stays
-abbrev pub delete_answer : Policies → List ℕ → Value → Result Done Refusal
-delete_answer policies name wanted =
-    if not (is_true wanted) then Err BadValue
-    else if is_none (place_of name policies.loaded) then Err NoEntry
-    else if is_active name policies then Err IsActive
-    else Ok Deleted
-
--- a switch that is on or off, and what is written to it
-abbrev pub switch_answer : Policies → Bool → Value → Result Done Refusal
-switch_answer policies present value.Bad = Err BadValue
-switch_answer policies present value.True =
-    if present then Ok Same else if policies.epoch == last_epoch then Err EpochFull else Ok Changed
-switch_answer policies present value.False =
-    if not present then Ok Same else if policies.epoch == last_epoch then Err EpochFull else Ok Changed
-
--- the answer to one who may administer
+-- the answer to an act of one who may administer
 abbrev pub act_answer : Verdicts → Policies → Act → Result Done Refusal
-act_answer verdicts policies (Load text) = load_answer verdicts policies text
-act_answer verdicts policies (Update name text) = update_answer verdicts policies name text
-act_answer verdicts policies (Activate name wanted) = activate_answer policies name wanted
-act_answer verdicts policies (Delete name wanted) = delete_answer policies name wanted
-act_answer verdicts policies (Enforce wanted) = switch_answer policies policies.enforce wanted
-act_answer verdicts policies (SuccessAudit wanted) = switch_answer policies policies.success wanted
+act_answer verdicts policies act =
+    answer_by (act_cases verdicts policies act) (done_by (change_of policies act))
 
--- the answer to a command
+-- the answer to a command: first of all it wants the right
 abbrev pub answer : Verdicts → Policies → Command → Result Done Refusal
-answer verdicts policies command = if command.may then act_answer verdicts policies command.act else Err NotPermitted
-
--- one epoch later
-abbrev pub later : Policies → Policies
-later policies = record policies { epoch = policies.epoch + 1 }
-
--- the policies after an act that was done and made a step
-abbrev pub changed : Policies → Act → Policies
-changed policies (Load text) = added policies (entry_of policies.next text)
-changed policies (Update name text) =
-    let with_entry : Policies = record policies {
-      loaded = replaced policies.loaded name (entry_of policies.next text);
-      next = policies.next + 1;
-    } in
-    if is_active name policies then later with_entry else with_entry
-changed policies (Activate name wanted) = later (record policies { active = Some name })
-changed policies (Delete name wanted) = record policies { loaded = without policies.loaded name }
-changed policies (Enforce wanted) = later (record policies { enforce = is_true wanted })
-changed policies (SuccessAudit wanted) = later (record policies { success = is_true wanted })
+answer verdicts policies command =
+    answer_by
+    ((not command.may, Err NotPermitted) ∷ act_cases verdicts policies command.act)
+    (done_by (change_of policies command.act))
 
 -- an answer is of a step that was made: nothing is refused, nor was it the case already
 abbrev pub is_step : Result Done Refusal → Bool
@@ -195,6 +173,11 @@ is_step (Ok AlreadyActive) = false
 is_step (Ok Deleted) = true
 is_step (Ok Changed) = true
 is_step (Ok Same) = false
+
+-- what a command changes, where it makes a step
+abbrev pub change_by : Verdicts → Policies → Command → Option Change
+change_by verdicts policies command =
+    if is_step (answer verdicts policies command) then Some (change_of policies command.act) else None
 
 -- the policies after an answer
 abbrev pub after_answer : Policies → Act → Result Done Refusal → Policies

@@ -1,5 +1,6 @@
 pub mod Refusals
 pub mod Policies
+pub mod Change
 pub mod Answer
 pub mod Machine
 pub mod Run

@@ -38,6 +38,16 @@ denies found = option_map_or (λ (f : Found). is_deny f.action) found false
     is_deny Allow = false
     is_deny Deny = true
 
+-- the record of an access is due where what was found denies, and at each while success_audit is on
+abbrev pub is_due : Policies → Option Found → Bool
+is_due policies found = denies found || policies.success
+
+-- the record of an access for an operation, if it has one, on the active policy, if there is one, is due
+abbrev pub due_for : Policies → Option Op → Option Loaded → Context → Bool
+due_for policies None entry context = false
+due_for policies (Some op) None context = false
+due_for policies (Some op) (Some entry) context = is_due policies (decision (policy_in entry.text).items op context)
+
 -- the place of the next claim
 abbrev pub next_place : Machine → Place
 next_place machine = record { epoch = machine.policies.epoch; count = machine.count }
@@ -67,7 +77,7 @@ ruling_by machine entry op context =
       serial = Some entry.serial;
       found = found;
       enforce = machine.policies.enforce;
-      record_due = denies found || machine.policies.success;
+      record_due = is_due machine.policies found;
     }
 
 -- the ruling at a claim for an operation

@@ -2,10 +2,13 @@
 -- next serial.
 use Rattle.std.specs.Prelude.{ℕ, ◌+◌, Bool, true, false, List, [], ◌∷◌, ◌++◌, Option, None, slice_get, slice_set, position, remove}
 use Rattle.std.specs.Option.{option_map_or, option_and_then, unwrap_or}
-use Rattle.std.specs.Result.{result_ok}
+use Rattle.std.specs.Result.{result_ok, result_err}
 use Rattle.ipe_policy.specs.declared.version.Version.{Version}
 use Rattle.line_words.specs.Words.{is_text}
 use Rattle.ipe_policy.specs.Policy.{PolicyParts}
+use Rattle.ipe_parse.specs.declared.error.BadKind.TheVariants.{NoHeader}
+use Rattle.ipe_parse.specs.declared.error.BadText.{BadText}
+use Rattle.ipe_parse.specs.declared.error.BadText.TheVariants.{Bad}
 use Rattle.ipe_parse.specs.Reading.{reading}
 
 -- a loaded policy: its name, version and text, and the serial that its load or update took
@@ -49,13 +52,25 @@ is_active name policies = option_map_or (is_text name) policies.active false
 abbrev pub active_entry : Policies → Option Loaded
 active_entry policies = option_and_then (λ name. entry_named name policies.loaded) policies.active
 
--- no policy, where a text reads as none
+-- no policy, where a text reads as none; its version is below every other
 abbrev pub no_policy : PolicyParts
 no_policy = record { name = []; version = record { major = 0; minor = 0; rev = 0 }; items = [] }
 
 -- the policy that a text reads as
 abbrev pub policy_in : List ℕ → PolicyParts
 policy_in text = unwrap_or (result_ok (reading text)) no_policy
+
+-- no fault, where a text reads as a policy
+abbrev pub no_fault : BadText
+no_fault = Bad 0 NoHeader
+
+-- the first fault of a text
+abbrev pub fault_in : List ℕ → BadText
+fault_in text = unwrap_or (result_err (reading text)) no_fault
+
+-- the version of an entry, or the lowest where there is none
+abbrev pub entry_version : Option Loaded → Version
+entry_version entry = option_map_or (λ (e : Loaded). e.version) entry no_policy.version
 
 -- the entry that a text makes
 abbrev pub entry_of : ℕ → List ℕ → Loaded

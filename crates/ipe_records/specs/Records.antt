@@ -1,5 +1,5 @@
 -- Which records a command and an access make.
-use Rattle.std.specs.Prelude.{ℕ, if◌then◌else◌, List, [], ◌∷◌, Option, Some, None, Result}
+use Rattle.std.specs.Prelude.{ℕ, Bool, if◌then◌else◌, List, [], ◌∷◌, Option, Some, None}
 use Rattle.std.specs.Option.{option_map, option_map_or, option_and_then}
 use Rattle.sha2.specs.Sha256.{sha256}
 use Rattle.ipe_policy.specs.declared.op.Op.{Op}
@@ -16,15 +16,12 @@ use Rattle.ipe_image.specs.Parts.{parts_of}
 use Rattle.ipe_image.specs.Decision.{deciding}
 use Rattle.ipe_audit.specs.declared.records.Brief.{Brief}
 use Rattle.ipe_audit.specs.Records.{access_text, activation_text, enforce_text, load_text}
-use Rattle.ipe_machine.specs.declared.command.Act.{Act}
-use Rattle.ipe_machine.specs.declared.command.Act.TheVariants.{Load, Update, Activate, Delete, Enforce, SuccessAudit}
 use Rattle.ipe_machine.specs.declared.command.Command.{Command}
-use Rattle.ipe_machine.specs.declared.answer.Done.{Done}
-use Rattle.ipe_machine.specs.declared.answer.Refusal.{Refusal}
 use Rattle.ipe_machine.specs.Policies as state
-use Rattle.ipe_machine.specs.Policies.{Policies, active_entry, entry_named, entry_of, is_active, policy_in}
-use Rattle.ipe_machine.specs.Answer.{Verdicts, answer, is_step, is_true}
-use Rattle.ipe_machine.specs.Machine.{Machine, ruling_by}
+use Rattle.ipe_machine.specs.Policies.{Policies, active_entry, entry_named, is_active, policy_in}
+use Rattle.ipe_machine.specs.Change.{Change, Loads, Updates, Activates, Deletes, SetsEnforce, SetsSuccess}
+use Rattle.ipe_machine.specs.Answer.{Verdicts, change_by}
+use Rattle.ipe_machine.specs.Machine.{due_for}
 
 -- what records tell of a loaded policy
 abbrev pub brief_of : state.Loaded → Brief
@@ -34,51 +31,58 @@ brief_of entry = record { name = entry.name; version = entry.version; digest = s
 abbrev pub activation_of : Policies → state.Loaded → List ℕ
 activation_of policies entry = activation_text (option_map brief_of (active_entry policies)) (brief_of entry)
 
--- the records of an act that was done and made a step: a load's; an update's, and behind it a change of the active
--- policy where it is that one; an activation's; a change of enforce
-abbrev pub act_records : Policies → Act → List (List ℕ)
-act_records policies (Load text) = load_text (brief_of (entry_of policies.next text)) ∷ []
-act_records policies (Update name text) =
-    let entry = entry_of policies.next text in
+-- the records of a change: a load's; an update's, and behind it a change of the active policy where it is that one; an
+-- activation's; a change of enforce
+abbrev pub change_records : Policies → Change → List (List ℕ)
+change_records policies (Loads entry) = load_text (brief_of entry) ∷ []
+change_records policies (Updates name entry) =
     load_text (brief_of entry) ∷ (if is_active name policies then activation_of policies entry ∷ [] else [])
-act_records policies (Activate name wanted) =
+change_records policies (Activates name) =
     option_map_or (λ entry. activation_of policies entry ∷ []) (entry_named name policies.loaded) []
-act_records policies (Delete name wanted) = []
-act_records policies (Enforce wanted) = enforce_text (is_true wanted) ∷ []
-act_records policies (SuccessAudit wanted) = []
+change_records policies (Deletes name) = []
+change_records policies (SetsEnforce on) = enforce_text on ∷ []
+change_records policies (SetsSuccess on) = []
 
--- the records of an answer: only a step makes any
-abbrev pub answer_records : Policies → Act → Result Done Refusal → List (List ℕ)
-answer_records policies act given = if is_step given then act_records policies act else []
+-- the records of a change, if there is one
+abbrev pub records_with : Policies → Option Change → List (List ℕ)
+records_with policies change = option_map_or (change_records policies) change []
 
--- the records of a command
+-- the records of a command: those of its change
 abbrev pub records_of : Verdicts → Policies → Command → List (List ℕ)
-records_of verdicts policies command = answer_records policies command.act (answer verdicts policies command)
+records_of verdicts policies command = records_with policies (change_by verdicts policies command)
 
 -- the record of an access that this statement decided
-abbrev pub access_by : Machine → Request → Subject → Object → Op → Statement → List ℕ
-access_by machine request subject object op statement =
-    access_text op (hook_of request) machine.policies.enforce subject object (statement_text statement)
+abbrev pub access_by : Policies → Request → Subject → Object → Op → Statement → List ℕ
+access_by policies request subject object op statement =
+    access_text op (hook_of request) policies.enforce subject object (statement_text statement)
 
--- the record of an access that is ruled by an entry's policy, where one is due
-abbrev pub access_under : Machine → Request → Subject → Object → Context → Op → state.Loaded → Option (List ℕ)
-access_under machine request subject object context op entry =
-    if (ruling_by machine entry op context).record_due then
+-- the record of an access that is ruled by an entry's policy
+abbrev pub access_under : Policies → Request → Subject → Object → Context → Op → state.Loaded → Option (List ℕ)
+access_under policies request subject object context op entry =
     option_and_then (λ (found : Found).
-    option_map (access_by machine request subject object op)
+    option_map (access_by policies request subject object op)
     (deciding (parts_of entry.serial (policy_in entry.text).items) op found))
     (decision (policy_in entry.text).items op context)
-    else None
 
 -- the same of an access for an operation, if a policy is active
-abbrev pub access_for : Machine → Request → Subject → Object → Context → Option Op → Option state.Loaded
+abbrev pub access_for : Policies → Request → Subject → Object → Context → Option Op → Option state.Loaded
     → Option (List ℕ)
-access_for machine request subject object context None entry = None
-access_for machine request subject object context (Some op) None = None
-access_for machine request subject object context (Some op) (Some entry) =
-    access_under machine request subject object context op entry
+access_for policies request subject object context None entry = None
+access_for policies request subject object context (Some op) None = None
+access_for policies request subject object context (Some op) (Some entry) =
+    access_under policies request subject object context op entry
+
+-- the record of an access for an operation, if it has one, on an entry, if one is active, where a record is due
+abbrev pub access_with : Policies → Request → Subject → Object → Context → Option Op → Option state.Loaded
+    → Option (List ℕ)
+access_with policies request subject object context op entry =
+    if due_for policies op entry context then access_for policies request subject object context op entry else None
+
+-- the record of an access is due
+abbrev pub is_access_due : Policies → Request → Context → Bool
+is_access_due policies request context = due_for policies (evaluated_op request) (active_entry policies) context
 
 -- the record of an access, where one is due
-abbrev pub access_of : Machine → Request → Subject → Object → Context → Option (List ℕ)
-access_of machine request subject object context =
-    access_for machine request subject object context (evaluated_op request) (active_entry machine.policies)
+abbrev pub access_of : Policies → Request → Subject → Object → Context → Option (List ℕ)
+access_of policies request subject object context =
+    access_with policies request subject object context (evaluated_op request) (active_entry policies)

@@ -1,3 +1,4 @@
 pub mod Entry
+pub mod Step
 pub mod Change
 pub mod Parts

@@ -1,30 +1,35 @@
 ghost use Rattle.std.specs.Prelude.{◌≡◌};
 
-use crate::Entry;
+use crate::{Entry, Registry};
 use ipe_machine::{Done, Refusal};
 use ipe_policy::Name;
+use std::marker::Model;
 
-// What a change does, with the places that were found and the copies that were made when it was planned.
+/// What a change does. An entry is put in under its own name.
 #[derive(Debug, Drop)]
-pub(crate) enum Step {
-    Add(Entry),
-    Replace {
-        place: usize,
-        entry: Entry,
-        raises: bool,
-    },
+pub enum Step {
+    Load(Entry),
+    Update(Entry),
     Activate(Name),
-    Remove {
-        place: usize,
-    },
+    Delete(Name),
     Enforce(bool),
     SuccessAudit(bool),
 }
 
-/// A change of the policies that is planned whole, so that making it needs nothing more.
+/// A change of the policies that is planned whole, with the entry or the name that it needs, so that making it takes no
+/// memory.
 #[derive(Debug, Drop)]
 pub struct Change {
     pub(crate) step: Step,
+}
+
+impl Model for Change {
+    ghost use Rattle.ipe_machine.specs.Change as machine;
+    ghost use Rattle.ipe_registry.specs.Step.{change_of_step};
+
+    ghost Value = { machine.Change };
+
+    ghost view = { change_of_step };
 }
 
 /// What a command comes to: a refusal, nothing to do, or a change.
@@ -38,41 +43,47 @@ pub enum Plan {
 impl Change {
     ghost use Rattle.std.specs.Prelude.{◌≡◌};
     ghost use Rattle.std.specs.Option.{option_copied};
-    ghost use Rattle.ipe_registry.specs.Change.{change_done, change_entry, change_raises};
+    ghost use Rattle.ipe_machine.specs.Change.{done_by, entry_in, raises};
+    ghost use Rattle.ipe_registry.specs.Step.{seen_step};
+
+    /// What it does.
+    pub fn step(&self) -> &Step
+        ensures { seen_step result.now ≡ self.now }
+    {
+        &self.step
+    }
 
     /// The entry that a load or an update brings.
     pub fn entry(&self) -> Option<&Entry>
-        ensures { option_copied result ≡ change_entry self.now }
+        ensures { option_copied result ≡ entry_in self.now }
     {
         match &self.step {
-            Step::Add(entry) | Step::Replace { entry, .. } => Some(entry),
-            Step::Activate(_) | Step::Remove { .. } | Step::Enforce(_) | Step::SuccessAudit(_) => {
-                None
-            }
+            Step::Load(entry) | Step::Update(entry) => Some(entry),
+            Step::Activate(_) | Step::Delete(_) | Step::Enforce(_) | Step::SuccessAudit(_) => None,
         }
     }
 
     /// The answer of `commit`.
     pub fn done(&self) -> Done
-        ensures { result ≡ change_done self.now }
+        ensures { result ≡ done_by self.now }
     {
         match &self.step {
-            Step::Add(_) => Done::Loaded,
-            Step::Replace { .. } => Done::Updated,
+            Step::Load(_) => Done::Loaded,
+            Step::Update(_) => Done::Updated,
             Step::Activate(_) => Done::Activated,
-            Step::Remove { .. } => Done::Deleted,
+            Step::Delete(_) => Done::Deleted,
             Step::Enforce(_) | Step::SuccessAudit(_) => Done::Changed,
         }
     }
 
-    /// Whether the epoch rises.
-    pub fn raises(&self) -> bool
-        ensures { result ≡ change_raises self.now }
+    /// Whether the epoch rises where the change is made on these policies.
+    pub fn raises(&self, registry: &Registry) -> bool
+        ensures { result ≡ raises registry.now self.now }
     {
         match &self.step {
-            Step::Replace { raises, .. } => *raises,
+            Step::Update(entry) => registry.is_active(&entry.name),
             Step::Activate(_) | Step::Enforce(_) | Step::SuccessAudit(_) => true,
-            Step::Add(_) | Step::Remove { .. } => false,
+            Step::Load(_) | Step::Delete(_) => false,
         }
     }
 }

@@ -1,50 +1,45 @@
-ghost use Rattle.std.specs.Prelude.{◌≡◌};
-ghost use Rattle.ipe_registry.specs.Change.{applied, change_done, Fits};
+ghost use Rattle.std.specs.Prelude.{◌≡◌, ◌<◌, ◌^◌};
+ghost use Rattle.ipe_machine.specs.Change.{done_by, made};
+ghost use Rattle.ipe_registry.specs.declared.change.Plan.TheVariants.{Ready};
+ghost use Rattle.ipe_registry.specs.Change.{IsPlannedOn};
 
 use crate::change::Step;
+use crate::registry::place_of;
 use crate::{Change, Registry};
 use ipe_machine::Done;
 
 impl Registry {
-    /// Makes a change that was planned on these policies.
+    /// Makes a change that was planned on these very policies.
     pub fn commit(&mut self, change: Change) -> Done
-        requires { Fits self.old change }
-        ensures after { self.new ≡ applied self.old change }
-        ensures done { result ≡ change_done change }
+        requires serial { self.old.next < 2 ^ 63 }
+        requires planned { IsPlannedOn self.old (Ready change) }
+        ensures after { self.new ≡ made self.old change }
+        ensures done { result ≡ done_by change }
     {
         let done = change.done();
+        if change.raises(self) {
+            self.epoch += 1;
+        }
         match change.step {
-            Step::Add(entry) => {
+            Step::Load(entry) => {
                 // Room for each entry was made at the start.
                 let _ = self.entries.push(entry);
                 self.next += 1;
             }
-            Step::Replace {
-                place,
-                entry,
-                raises,
-            } => {
-                self.entries[place] = entry;
+            Step::Update(entry) => {
+                if let Some(place) = place_of(&self.entries, &entry.name) {
+                    self.entries[place] = entry;
+                }
                 self.next += 1;
-                if raises {
-                    self.epoch += 1;
+            }
+            Step::Activate(name) => self.active = Some(name),
+            Step::Delete(name) => {
+                if let Some(place) = place_of(&self.entries, &name) {
+                    self.entries.remove(place);
                 }
             }
-            Step::Activate(name) => {
-                self.active = Some(name);
-                self.epoch += 1;
-            }
-            Step::Remove { place } => {
-                self.entries.remove(place);
-            }
-            Step::Enforce(on) => {
-                self.enforce = on;
-                self.epoch += 1;
-            }
-            Step::SuccessAudit(on) => {
-                self.success = on;
-                self.epoch += 1;
-            }
+            Step::Enforce(on) => self.enforce = on,
+            Step::SuccessAudit(on) => self.success = on,
         }
         done
     }

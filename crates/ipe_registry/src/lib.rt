@@ -10,7 +10,7 @@ mod entry;
 mod plan;
 mod registry;
 
-pub use change::{Change, Plan};
+pub use change::{Change, Plan, Step};
 pub use entry::Entry;
 pub use ipe_machine::{Act, Command, Done, Refusal, Text, Value};
 pub use ipe_parse::{BadKind, BadText};

@@ -1,14 +1,15 @@
-ghost use Rattle.std.specs.Prelude.{◌≡◌, ◌<◌, ◌≤◌, ◌^◌, IfOk, OnErr, IsTrue, length};
+ghost use Rattle.std.specs.Prelude.{◌≡◌, ◌<◌, ◌≤◌, ◌^◌, IfOk, OnErr, IsTrue};
 ghost use Rattle.sha2.specs.Sha256.{sha256};
 ghost use Rattle.ipe_policy.specs.Spelling.{words_of_image};
 ghost use Rattle.ipe_parse.specs.Reading.{reading};
-ghost use Rattle.ipe_machine.specs.Policies.{place_of, active_entry};
-ghost use Rattle.ipe_machine.specs.Answer.{load_answer, load_by, update_answer, update_by, activate_answer, activation_by, delete_answer, switch_answer};
+ghost use Rattle.ipe_machine.specs.Policies.{active_entry, entry_version};
+ghost use Rattle.ipe_machine.specs.Answer.{act_answer, answer_by, activation_cases, deletion_cases, switch_cases};
 ghost use Rattle.ipe_registry.specs.Change.{IsPlan};
-ghost use Rattle.ipe_registry.specs.Parts.{IsPlanOf, IsTaken, version_at, standing_against};
+ghost use Rattle.ipe_registry.specs.Step.{seen_step};
+ghost use Rattle.ipe_registry.specs.Parts.{IsPlanOf, IsTaken, addition_answer, replacement_answer};
 
 use crate::change::Step;
-use crate::registry::{MOST_LOADED, place_of};
+use crate::registry::MOST_LOADED;
 use crate::{Change, Entry, Plan, Registry};
 use ipe_machine::{Act, Command, Done, Refusal, Text, Value};
 use ipe_parse::{BadText, ParseError, parse};
@@ -23,6 +24,12 @@ const MOST_TEXT: usize = 1_048_576;
 const MOST_WORDS: u64 = 4096;
 
 const LAST_EPOCH: u16 = u16::MAX;
+
+const LOWEST: Version = Version {
+    major: 0,
+    minor: 0,
+    rev: 0,
+};
 
 // The policy that a text brings with the text's digest, or the first refusal that the text alone meets.
 fn taken<S: Signer>(
@@ -59,17 +66,8 @@ fn taken<S: Signer>(
     }
 }
 
-// The version of the entry at a place.
-fn version_at(entries: &[Entry], place: usize) -> Version
-    requires { place < length entries.now }
-    ensures { result ≡ version_at entries.now place }
-{
-    let entry = &entries[place];
-    entry.version
-}
-
 fn ready(step: Step) -> Plan
-    ensures { result ≡ Plan.Ready (record { step = step }) }
+    ensures { result ≡ Plan.Ready (seen_step step) }
 {
     Plan::Ready(Change { step })
 }
@@ -95,13 +93,12 @@ impl Registry {
             Act::Load(text) => self.plan_load(alloc, signer, text),
             Act::Update(name, text) => self.plan_update(alloc, signer, name, text),
             Act::Activate(name, wanted) => self.plan_activation(name, *wanted),
-            Act::Delete(name, wanted) => Ok(self.plan_deletion(name, *wanted)),
+            Act::Delete(name, wanted) => self.plan_deletion(name, *wanted),
             Act::Enforce(wanted) => Ok(self.plan_enforce(*wanted)),
             Act::SuccessAudit(wanted) => Ok(self.plan_success(*wanted)),
         }
     }
 
-    #[tactic(auto, using(crate::proofs::Plans::load_refused, crate::proofs::Plans::load_taken))]
     fn plan_load<S: Signer>(
         &self,
         alloc: Global,
@@ -110,7 +107,7 @@ impl Registry {
     ) -> Result<Plan, AllocError>
         requires { self.now.next < 2 ^ 63 }
         ensures { IfOk result (IsPlanOf self.now (Act.Load text.now)
-            (load_answer (S.verdict_of signer.now) self.now text.now)) }
+            (act_answer (S.verdict_of signer.now) self.now (Act.Load text.now))) }
     {
         match taken(alloc, signer, text.as_slice())? {
             Ok(brought) => {
@@ -133,19 +130,19 @@ impl Registry {
         requires digest { digest ≡ sha256 text.now }
         requires policy { reading text.now ≡ Ok policy }
         requires fits { words_of_image policy.items ≤ 4096 }
-        ensures { IfOk result (IsPlanOf self.now (Act.Load text.now) (load_by self.now policy)) }
+        ensures { IfOk result (IsPlanOf self.now (Act.Load text.now) (addition_answer self.now policy)) }
     {
-        if place_of(&self.entries, &policy.name).is_some() {
+        if self.entry(&policy.name).is_some() {
             return Ok(Plan::Refused(Refusal::Exists));
         }
         if self.entries.len() >= MOST_LOADED {
             return Ok(Plan::Refused(Refusal::NoSpace));
         }
         let entry = Entry::new(alloc, self.next, text.as_slice(), digest, policy)?;
-        Ok(ready(Step::Add(entry)))
+        Ok(ready(Step::Load(entry)))
     }
 
-    #[tactic(auto, using(crate::proofs::Plans::update_refused, crate::proofs::Plans::update_taken))]
+    #[tactic(auto, using(crate::proofs::Plans::update_taken))]
     fn plan_update<S: Signer>(
         &self,
         alloc: Global,
@@ -155,82 +152,70 @@ impl Registry {
     ) -> Result<Plan, AllocError>
         requires { self.now.next < 2 ^ 63 }
         ensures { IfOk result (IsPlanOf self.now (Act.Update name.now text.now)
-            (update_answer (S.verdict_of signer.now) self.now name.now text.now)) }
+            (act_answer (S.verdict_of signer.now) self.now (Act.Update name.now text.now))) }
     {
-        let Some(place) = place_of(&self.entries, name) else {
+        let Some(entry) = self.entry(name) else {
             return Ok(Plan::Refused(Refusal::NoEntry));
         };
+        let present = entry.version;
         match taken(alloc, signer, text.as_slice())? {
             Ok(brought) => {
                 let (policy, digest) = brought;
-                self.plan_replacement(alloc, name, place, text, policy, digest)
+                self.plan_replacement(alloc, name, present, text, policy, digest)
             }
             Err(refusal) => Ok(Plan::Refused(refusal)),
         }
     }
 
-    // The rest of an update, of a name that is loaded at this place and a text that brings this policy.
+    // The rest of an update, of a name at this version and a text that brings this policy.
     fn plan_replacement(
         &self,
         alloc: Global,
         name: &Name,
-        place: usize,
+        present: Version,
         text: &Text,
         policy: Policy,
         digest: [u8; 32],
     ) -> Result<Plan, AllocError>
         requires serial { self.now.next < 2 ^ 63 }
-        requires place { place_of name.now self.now.loaded ≡ Some place }
-        requires within { place < length self.now.loaded }
         requires digest { digest ≡ sha256 text.now }
         requires policy { reading text.now ≡ Ok policy }
         requires fits { words_of_image policy.items ≤ 4096 }
         ensures { IfOk result (IsPlanOf self.now (Act.Update name.now text.now)
-            (update_by self.now name.now (version_at self.now.loaded place) policy)) }
+            (replacement_answer self.now name.now present policy)) }
     {
         if policy.name.as_slice() != name.as_slice() {
             return Ok(Plan::Refused(Refusal::OtherName));
         }
-        let present = version_at(&self.entries, place);
         let offered = policy.version;
         if offered.packed() < present.packed() {
             return Ok(Plan::Refused(Refusal::Stale { present, offered }));
         }
-        let raises = self.is_active(name);
-        if raises && self.epoch == LAST_EPOCH {
+        if self.is_active(name) && self.epoch == LAST_EPOCH {
             return Ok(Plan::Refused(Refusal::EpochFull));
         }
         let entry = Entry::new(alloc, self.next, text.as_slice(), digest, policy)?;
-        Ok(ready(Step::Replace {
-            place,
-            entry,
-            raises,
-        }))
+        Ok(ready(Step::Update(entry)))
     }
 
-    #[tactic(auto, using(crate::proofs::Plans::activation_found))]
     fn plan_activation(&self, name: &Name, wanted: Value) -> Result<Plan, AllocError>
         ensures { IfOk result (IsPlanOf self.now (Act.Activate name.now wanted)
-            (activate_answer self.now name.now wanted)) }
+            (answer_by (activation_cases self.now name.now wanted) Done.Activated)) }
     {
         if wanted != Value::True {
             return Ok(Plan::Refused(Refusal::BadValue));
         }
-        match place_of(&self.entries, name) {
-            Some(place) => self.plan_choice(name, version_at(&self.entries, place)),
-            None => Ok(Plan::Refused(Refusal::NoEntry)),
-        }
-    }
-
-    // The rest of an activation, of a name that is loaded at this version.
-    fn plan_choice(&self, name: &Name, offered: Version) -> Result<Plan, AllocError>
-        ensures { IfOk result (IsPlanOf self.now (Act.Activate name.now Value.True)
-            (activation_by self.now name.now offered)) }
-    {
+        let found = self.entry(name);
+        let Some(entry) = found else {
+            return Ok(Plan::Refused(Refusal::NoEntry));
+        };
         if self.is_active(name) {
             return Ok(Plan::Same(Done::AlreadyActive));
         }
-        if let Some(present) = self.standing_against(offered) {
+        let offered = entry.version;
+        let present = self.active_version();
+        let stale = offered.packed() < present.packed();
+        if stale {
             return Ok(Plan::Refused(Refusal::Stale { present, offered }));
         }
         if self.epoch == LAST_EPOCH {
@@ -239,33 +224,36 @@ impl Registry {
         Ok(ready(Step::Activate(name.clone()?)))
     }
 
-    // The active version, where it is above this one.
-    fn standing_against(&self, offered: Version) -> Option<Version>
-        ensures { result ≡ standing_against (active_entry self.now) offered }
+    // The version of the active policy, or the lowest where none is active.
+    fn active_version(&self) -> Version
+        ensures { result ≡ entry_version (active_entry self.now) }
     {
-        let active = self.active_entry()?;
-        (offered.packed() < active.version.packed()).then_some(active.version)
+        match self.active_entry() {
+            Some(active) => active.version,
+            None => LOWEST,
+        }
     }
 
-    #[tactic(auto, using(crate::proofs::Plans::without_place))]
-    fn plan_deletion(&self, name: &Name, wanted: Value) -> Plan
-        ensures { IsPlanOf self.now (Act.Delete name.now wanted) (delete_answer self.now name.now wanted) result }
+    fn plan_deletion(&self, name: &Name, wanted: Value) -> Result<Plan, AllocError>
+        ensures { IfOk result (IsPlanOf self.now (Act.Delete name.now wanted)
+            (answer_by (deletion_cases self.now name.now wanted) Done.Deleted)) }
     {
         if wanted != Value::True {
-            return Plan::Refused(Refusal::BadValue);
+            return Ok(Plan::Refused(Refusal::BadValue));
         }
-        let Some(place) = place_of(&self.entries, name) else {
-            return Plan::Refused(Refusal::NoEntry);
-        };
+        if self.entry(name).is_none() {
+            return Ok(Plan::Refused(Refusal::NoEntry));
+        }
         let active = self.is_active(name);
         if active {
-            return Plan::Refused(Refusal::IsActive);
+            return Ok(Plan::Refused(Refusal::IsActive));
         }
-        ready(Step::Remove { place })
+        Ok(ready(Step::Delete(name.clone()?)))
     }
 
     fn plan_enforce(&self, wanted: Value) -> Plan
-        ensures { IsPlanOf self.now (Act.Enforce wanted) (switch_answer self.now self.now.enforce wanted) result }
+        ensures { IsPlanOf self.now (Act.Enforce wanted)
+            (answer_by (switch_cases self.now self.now.enforce wanted) Done.Changed) result }
     {
         let on = match wanted {
             Value::True => true,
@@ -282,7 +270,8 @@ impl Registry {
     }
 
     fn plan_success(&self, wanted: Value) -> Plan
-        ensures { IsPlanOf self.now (Act.SuccessAudit wanted) (switch_answer self.now self.now.success wanted) result }
+        ensures { IsPlanOf self.now (Act.SuccessAudit wanted)
+            (answer_by (switch_cases self.now self.now.success wanted) Done.Changed) result }
     {
         let on = match wanted {
             Value::True => true,

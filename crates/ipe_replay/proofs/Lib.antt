@@ -1,4 +1,3 @@
 pub mod HookLemmas
 pub mod LineLemmas
-pub mod RecordLemmas
 pub mod RoomLemmas

@@ -11,7 +11,8 @@ use Rattle.ipe_machine.specs.declared.answer.Done.TheVariants as done
 use Rattle.ipe_machine.specs.declared.answer.Refusal.{Refusal}
 use Rattle.ipe_machine.specs.declared.event.Event.TheVariants as event
 use Rattle.ipe_machine.specs.Policies.{Policies, Loaded, is_active, active_entry}
-use Rattle.ipe_machine.specs.Answer.{Verdicts, changed, after_answer, after, answer}
+use Rattle.ipe_machine.specs.Change.{changed}
+use Rattle.ipe_machine.specs.Answer.{Verdicts, after_answer, after, answer}
 use Rattle.ipe_machine.specs.Machine.{Machine, after_event, claimed, with_policies, is_free}
 use Rattle.ipe_script.specs.declared.script.PhaseLine.{PhaseLine}
 use Rattle.ipe_script.specs.declared.script.Task.{Task}

@@ -1,4 +1,2 @@
 pub mod Room
-pub mod Told
-pub mod Ruled
 pub mod Digests

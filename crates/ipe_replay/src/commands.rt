@@ -1,10 +1,11 @@
 ghost use Rattle.std.specs.Prelude.{◌≡◌, IfOk, OnOk, neg_ℤ, pos};
 ghost use Rattle.ipe_words.specs.Number.{errno_number};
 ghost use Rattle.ipe_script.specs.declared.script.Task.TheVariants.{Read, Write};
-ghost use Rattle.ipe_script.specs.Script.{content_of};
+ghost use Rattle.ipe_transcript.specs.declared.entry.Entry.TheVariants as entry;
 ghost use Rattle.ipe_signer.specs.Marks.{last_verdict};
 ghost use Rattle.ipe_machine.specs.declared.event.Event.TheVariants as event;
-ghost use Rattle.ipe_machine.specs.Machine.{after_event, outcome_of};
+ghost use Rattle.ipe_machine.specs.Answer.{after, answer};
+ghost use Rattle.ipe_machine.specs.Machine.{after_event};
 ghost use Rattle.ipe_machine.specs.Refusals.{errno_of};
 ghost use Rattle.ipe_nodes.specs.Nodes.{node_read};
 ghost use Rattle.ipe_records.specs.Records.{records_of};
@@ -13,36 +14,17 @@ ghost use Rattle.ipe_history.specs.Transcript.{code_of, entry_of};
 ghost use Rattle.ipe_replay.specs.Room.{HasRoom};
 
 use crate::marks::bytes_of;
-use crate::records::{active_brief, answer_records};
 use crate::running::Replay;
 use ipe_audit::Lines;
-use ipe_core::{Command, CoreOutcome, Done, Event, Refusal, Reply, State, step};
+use ipe_core::{Command, Done, Refusal, State, commit};
 use ipe_nodes::{command_of, read_registry};
+use ipe_records::command_records;
 use ipe_script::{Requests, WriteContent};
 use ipe_transcript::Entry;
 use ipe_words::Bytes;
 use std::alloc::{AllocError, Global};
 
-// The bytes that are written.
-fn content_of(
-    alloc: Global,
-    requests: &Requests,
-    content: &WriteContent,
-) -> Result<Vec<u8>, AllocError>
-    ensures { IfOk result (λ bytes. bytes.items ≡ content_of requests.now content.now) }
-{
-    match content {
-        WriteContent::Text(place) => bytes_of(requests, *place).to_vec(alloc),
-        WriteContent::Echo(word) => {
-            let mut bytes = word.as_slice().to_vec(alloc)?;
-            bytes.push(b'\n')?;
-            Ok(bytes)
-        }
-        WriteContent::Hex(bytes) => bytes.as_slice().to_vec(alloc),
-    }
-}
-
-// What a write asks for.
+// What a write asks for. A text and digits are handed on as they are.
 fn asked_by(
     alloc: Global,
     requests: &Requests,
@@ -52,8 +34,15 @@ fn asked_by(
 ) -> Result<Result<Command, Refusal>, AllocError>
     ensures { IfOk result (λ asked. asked ≡ asked_by requests.now may node.now content.now) }
 {
-    let bytes = content_of(alloc, requests, content)?;
-    command_of(alloc, node, &bytes, may)
+    match content {
+        WriteContent::Text(place) => command_of(alloc, node, bytes_of(requests, *place), may),
+        WriteContent::Echo(word) => {
+            let mut bytes = word.as_slice().to_vec(alloc)?;
+            bytes.push(b'\n')?;
+            command_of(alloc, node, &bytes, may)
+        }
+        WriteContent::Hex(bytes) => command_of(alloc, node, bytes.as_slice(), may),
+    }
 }
 
 // The number of a refusal's error, below 0.
@@ -73,50 +62,32 @@ fn code_of(answer: &Result<Done, Refusal>) -> i32
     }
 }
 
-// A command's outcome, and its records.
-#[derive(Debug, Drop)]
-struct Made {
-    outcome: CoreOutcome,
-    records: Lines,
-}
-
-// Steps the machine by a command, and gives the command back.
-fn stepped(
+// The entry of a command. Its records are made from its plan, before it changes anything.
+fn command_entry(
     replay: &Replay<'_>,
     state: &mut State,
-    command: Command,
-) -> Result<(CoreOutcome, Command), AllocError>
+    line: u32,
+    command: &Command,
+) -> Result<Entry, AllocError>
     requires { HasRoom state.old 1 }
-    ensures outcome { IfOk result (λ made. made.0 ≡ outcome_of (last_verdict replay.now.signer) state.old command) }
-    ensures command { IfOk result (λ made. made.1 ≡ command) }
-    ensures after { OnOk result (state.new ≡ after_event (last_verdict replay.now.signer) state.old (event.Command command)) }
+    ensures entry { IfOk result (λ made. made ≡ entry.Write line command.now.may
+        (code_of (answer (last_verdict replay.now.signer) state.old.policies command.now))
+        (after (last_verdict replay.now.signer) state.old.policies command.now).epoch
+        (records_of (last_verdict replay.now.signer) state.old.policies command.now)) }
+    ensures after { OnOk result (state.new ≡ after_event (last_verdict replay.now.signer) state.old (event.Command command.now)) }
 {
-    let event = Event::Command(command);
-    let reply = step(replay.alloc, &replay.signer, state, &event)?;
-    match (reply, event) {
-        (Reply::Command(outcome), Event::Command(command)) => Ok((outcome, command)),
-        _ => unreachable!(),
-    }
-}
-
-// Steps the machine by a command. Which policy was active is looked up before it.
-fn run_command(replay: &Replay<'_>, state: &mut State, command: Command) -> Result<Made, AllocError>
-    requires { HasRoom state.old 1 }
-    ensures outcome { IfOk result (λ made. made.outcome ≡ outcome_of (last_verdict replay.now.signer) state.old command) }
-    ensures records { IfOk result
-        (λ made. made.records ≡ records_of (last_verdict replay.now.signer) state.old.policies command) }
-    ensures after { OnOk result (state.new ≡ after_event (last_verdict replay.now.signer) state.old (event.Command command)) }
-{
-    let old = active_brief(state.registry())?;
-    let (outcome, command) = stepped(replay, state, command)?;
-    let records = answer_records(
-        replay.alloc,
-        old.as_ref(),
-        state.registry(),
-        &command.act,
-        &outcome.reply,
-    )?;
-    Ok(Made { outcome, records })
+    let plan = state
+        .registry()
+        .plan(replay.alloc, &replay.signer, command)?;
+    let records = command_records(replay.alloc, state.registry(), &plan)?;
+    let outcome = commit(state, plan);
+    Ok(Entry::Write {
+        line,
+        may: command.may,
+        code: code_of(&outcome.reply),
+        epoch: outcome.epoch,
+        records,
+    })
 }
 
 // The entry of a write. One that asks for no command is answered without a step.
@@ -135,16 +106,7 @@ pub(crate) fn write_entry(
     ensures after { OnOk result (state.new ≡ after_task replay.now.requests.now state.old (Write may node.now content.now)) }
 {
     match asked_by(replay.alloc, replay.requests, may, node, content)? {
-        Ok(command) => {
-            let made = run_command(replay, state, command)?;
-            Ok(Entry::Write {
-                line,
-                may,
-                code: code_of(&made.outcome.reply),
-                epoch: made.outcome.epoch,
-                records: made.records,
-            })
-        }
+        Ok(command) => command_entry(replay, state, line, &command),
         Err(refusal) => Ok(Entry::Write {
             line,
             may,

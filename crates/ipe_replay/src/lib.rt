@@ -9,7 +9,6 @@ mod commands;
 mod hooks;
 mod marks;
 mod phases;
-mod records;
 mod running;
 
 pub use phases::replay;

@@ -25,7 +25,7 @@ pub(crate) struct Running {
 
 impl Model for Running {
     ghost use Rattle.ipe_machine.specs.Machine.{Machine};
-    ghost use Rattle.ipe_replay.specs.Ruled.{IsKept};
+    ghost use Rattle.ipe_records.specs.Ruled.{IsKept};
 
     ghost Value = { Machine };
 

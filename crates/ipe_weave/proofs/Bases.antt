@@ -6,7 +6,7 @@ use Rattle.ipe_machine.specs.declared.event.CoreRuling.{CoreRuling}
 use Rattle.ipe_machine.specs.Policies.{Loaded, active_entry}
 use Rattle.ipe_machine.specs.Answer.{Verdicts}
 use Rattle.ipe_machine.specs.Machine.{Machine, ruling_at}
-use Rattle.ipe_records.specs.Records.{access_for}
+use Rattle.ipe_records.specs.Records.{access_with}
 use Rattle.ipe_policy.specs.Request.{evaluated_op}
 use Rattle.ipe_machine.specs.Epochs.{CommandsStayOrBegin}
 use Rattle.ipe_gate_rule.specs.declared.event.Event.{Event}
@@ -22,7 +22,7 @@ ruled_alike machine h None op context like = rw (like.epoch, like.count, like.en
 ruled_alike machine h (Some entry) op context like = rw (like.epoch, like.count, like.enforce, like.success) refl
 
 recorded_alike : (machine : Machine) (h : List Event) (access : Access) (op : Option Op) (entry : Option Loaded) → IsLike machine h
-    → access_for (machine_at h) access.request access.subject access.object access.context op entry ≡ access_for machine access.request access.subject access.object access.context op entry
+    → access_with (machine_at h).policies access.request access.subject access.object access.context op entry ≡ access_with machine.policies access.request access.subject access.object access.context op entry
 recorded_alike machine h access None entry like = refl
 recorded_alike machine h access (Some op) None like = refl
 recorded_alike machine h access (Some op) (Some entry) like = rw (like.enforce, like.success) refl
@@ -31,7 +31,7 @@ run_answers : (verdicts : Verdicts) (in_epoch : ℕ → Option Loaded) (machine 
     → claimed_by h (in_epoch (epoch_of h)) op access ≡ hook_reply machine (Some op) access
 run_answers verdicts in_epoch machine h op access like shows =
     ap (λ (entry : Option Loaded). claimed_by h entry op access) shows
-    ∙ ap (λ (r : CoreRuling). ruled r (access_for (machine_at h) access.request access.subject access.object access.context (evaluated_op access.request) (active_entry machine.policies))) (ruled_alike machine h (active_entry machine.policies) op access.context like)
+    ∙ ap (λ (r : CoreRuling). ruled r (access_with (machine_at h).policies access.request access.subject access.object access.context (evaluated_op access.request) (active_entry machine.policies))) (ruled_alike machine h (active_entry machine.policies) op access.context like)
     ∙ ap (λ (r : Option (List ℕ)). ruled (ruling_at machine (active_entry machine.policies) op access.context) r) (recorded_alike machine h access (evaluated_op access.request) (active_entry machine.policies) like)
 
 pub run_laws : (verdicts : Verdicts) (in_epoch : ℕ → Option Loaded) → in_epoch 0 ≡ None → IsBasis (run_basis verdicts in_epoch)

@@ -86,7 +86,7 @@ abbrev pub hook_reply : Machine → Option Op → Access → LineReply
 hook_reply machine None access = ruled ruling_unevaluated None
 hook_reply machine (Some op) access =
     ruled (ruling_for machine (Some op) access.context)
-    (access_of machine access.request access.subject access.object access.context)
+    (access_of machine.policies access.request access.subject access.object access.context)
 
 -- the reply to a task
 abbrev pub task_reply : Verdicts → Machine → Task → LineReply

@@ -6,7 +6,7 @@ use Rattle.ipe_policy.specs.Request.{evaluated_op}
 use Rattle.ipe_machine.specs.Policies.{Policies, Loaded, active_entry, first_policies}
 use Rattle.ipe_machine.specs.Answer.{Verdicts}
 use Rattle.ipe_machine.specs.Machine.{Machine, ruling_at}
-use Rattle.ipe_records.specs.Records.{access_for}
+use Rattle.ipe_records.specs.Records.{access_with}
 use Rattle.ipe_gate_rule.specs.declared.event.Event.{Event}
 use Rattle.ipe_gate_rule.specs.declared.event.Event.TheVariants.{Store, Switch, Claim, Return, Look}
 use Rattle.ipe_gate_rule.specs.History.{enforce_of, success_of, epoch_of, count_of}
@@ -26,7 +26,7 @@ machine_at h = record {
 abbrev pub claimed_by : List Event → Option Loaded → Op → Access → LineReply
 claimed_by h entry op access =
     ruled (ruling_at (machine_at h) entry op access.context)
-    (access_for (machine_at h) access.request access.subject access.object access.context
+    (access_with (machine_at h).policies access.request access.subject access.object access.context
     (evaluated_op access.request) entry)
 
 -- a run stores nothing

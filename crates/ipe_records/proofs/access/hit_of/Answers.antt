@@ -1,6 +1,6 @@
 use Rattle.ipe_image.specs.Reader.{filled}
-use Rattle.ipe_replay.specs.Ruled.{parts_in}
-use Rattle.ipe_replay.proofs.hooks.hit_of.Goals as goal
+use Rattle.ipe_records.specs.Ruled.{parts_in}
+use Rattle.ipe_records.proofs.access.hit_of.Goals as goal
 
 pub returns-clause-hit : goal.returns-clause-hit
 returns-clause-hit c =
