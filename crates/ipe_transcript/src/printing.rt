@@ -1,4 +1,4 @@
-ghost use Rattle.std.specs.Prelude.{◌≡◌, ◌++◌, IfOk, OnOk, string_bytes};
+ghost use Rattle.std.specs.Prelude.{◌≡◌, ◌++◌, IfOk, OnErr, OnOk, string_bytes};
 ghost use Rattle.std.specs.List.{flat_map};
 ghost use Rattle.ipe_transcript.specs.Lines.{access_line, acted_text, by_text, bytes_text, entry_text, hook_text, place_text, read_text, serial_text, told_text, who_text, write_text};
 ghost use Rattle.line_words.specs.Lines.{line_text};
@@ -10,8 +10,18 @@ use ipe_policy::Which;
 use ipe_words::Bytes;
 use std::alloc::{AllocError, Global};
 
-/// Appends an entry's line, and behind it the lines of its records, each with a line feed.
+/// Appends an entry's line, and behind it the lines of its records, each with a line feed. Out of memory, nothing is
+/// appended.
 pub fn print_entry(alloc: Global, out: &mut Vec<u8>, entry: &Entry) -> Result<(), AllocError>
+    ensures ok { OnOk result (out.new.items ≡ out.old.items ++ entry_text entry.now) }
+    ensures err { OnErr result (out.new.items ≡ out.old.items) }
+{
+    let mut text = Vec::new(alloc);
+    append_entry(alloc, &mut text, entry)?;
+    out.extend_from_slice(&text)
+}
+
+fn append_entry(alloc: Global, out: &mut Vec<u8>, entry: &Entry) -> Result<(), AllocError>
     ensures { OnOk result (out.new.items ≡ out.old.items ++ entry_text entry.now) }
 {
     match entry {
