@@ -1,35 +1,30 @@
 //! `hash_device` writes the hash blocks of a data image for dm-verity, as they are stored on its hash device: the bytes
-//! that `veritysetup format --no-superblock` writes there. Its words are the size of a block and the salt, and the
-//! image is its input.
+//! that `veritysetup format --no-superblock` writes there. Its arguments are the size of a block, the salt and the image.
+//!
+//! [`run`] is the whole program. `main` hands it the arguments, the standard streams and the files of the
+//! system.
 #![tactic(auto)]
 
 mod run;
-mod words;
-mod writing;
 
-use ipe_words::{Status, StdSink, StdSource};
+use blk_device::FileDevices;
+use ipe_program::arguments;
+use ipe_words::{StdSink, StdSource};
 pub use run::run;
-use std::env;
-use std::io::{self, ErrorKind};
+use std::io;
 use std::process::ExitCode;
-pub use writing::write_hash_blocks;
 
 fn main(rt: HostRuntime) -> ExitCode {
-    let status = match words_of(&rt) {
+    let status = match arguments(&rt) {
         Ok(words) => {
             let mut source = StdSource::new(rt.reader());
             let mut sink = StdSink::new(io::writer(&rt));
-            run(rt.alloc(), &words, &mut source, &mut sink)
+            let mut devices = FileDevices::new(&rt);
+            run(rt.alloc(), &words, &mut source, &mut sink, &mut devices)
         }
-        Err(error) if error.kind() == ErrorKind::OutOfMemory => Status::NoMemory,
-        Err(_) => Status::Usage,
+        Err(status) => status,
     };
     ExitCode::from(status.number())
-}
-
-// The words behind the program's own name. One that isn't UTF-8 is an error.
-fn words_of(rt: &HostRuntime) -> io::Result<Vec<String>> {
-    Ok(env::args(rt)?.skip(1).collect(rt.alloc())?)
 }
 
 #[cfg(test)]

@@ -3,7 +3,7 @@ use ipe_parse::parse;
 use ipe_policy::print;
 use std::test::Fail;
 
-/// examples/sealed_appliance.policy
+/// The example of this name.
 const SEALED_APPLIANCE: &str =
     "# A sealed appliance: nothing runs but what was in the boot image or is on the signed volume.
 policy_name=sealed-appliance policy_version=1.4.0
@@ -23,29 +23,6 @@ op=EXECUTE dmverity_signature=TRUE action=ALLOW
 op=FIRMWARE boot_verified=TRUE action=ALLOW
 op=KMODULE boot_verified=TRUE action=ALLOW
 op=POLICY boot_verified=TRUE action=ALLOW
-";
-
-/// examples/locked_server.policy
-const LOCKED_SERVER: &str =
-    "# A locked server: signed volumes and signed files run, but for one volume whose root is revoked.
-policy_name=locked-server policy_version=2.1.1
-DEFAULT action=DENY
-op=EXECUTE dmverity_roothash=sha256:4f1f0a2c9d3b6e8877665544332211000f1e2d3c4b5a69788796a5b4c3d2e1f0 action=DENY\t# revoked in November
-op=EXECUTE boot_verified=TRUE action=ALLOW
-op=EXECUTE dmverity_signature=TRUE action=ALLOW
-op=EXECUTE fsverity_signature=TRUE action=ALLOW
-op=KMODULE boot_verified=TRUE action=ALLOW
-op=KMODULE dmverity_signature=TRUE action=ALLOW
-DEFAULT op=FIRMWARE action=ALLOW
-";
-
-/// examples/permissive_start.policy
-const PERMISSIVE_START: &str =
-    "# A permissive start: everything is allowed, but for kernel images that are not of the boot image.
-policy_name=permissive-start policy_version=0.1.0
-DEFAULT action=ALLOW
-op=KEXEC_IMAGE boot_verified=FALSE action=DENY
-op=KEXEC_INITRAMFS boot_verified=FALSE action=DENY
 ";
 
 const SEVEN_DEFAULTS: &str = "policy_name=d policy_version=1.0.0
@@ -249,25 +226,5 @@ fn a_printed_policy_reads_as_itself(rt: HostRuntime) -> Result<(), Fail> {
     assert_eq!(rt; again.name, policy.name);
     assert_eq!(rt; again.version, policy.version);
     assert_eq!(rt; print(rt.alloc(), &again)?.as_slice(), printed.as_slice());
-    Ok(())
-}
-
-#[test]
-fn the_examples_are_policies(rt: HostRuntime) -> Result<(), Fail> {
-    for (text, answer) in [
-        (
-            SEALED_APPLIANCE,
-            "ok sealed-appliance 1.4.0 rules=5 words=35\n",
-        ),
-        (LOCKED_SERVER, "ok locked-server 2.1.1 rules=6 words=42\n"),
-        (
-            PERMISSIVE_START,
-            "ok permissive-start 0.1.0 rules=2 words=29\n",
-        ),
-    ] {
-        let (status, written) = answered(rt.alloc(), &["lint"], text.as_bytes())?;
-        assert_eq!(rt; status, 0, "{text}");
-        assert_eq!(rt; written.as_slice(), answer.as_bytes(), "{text}");
-    }
     Ok(())
 }

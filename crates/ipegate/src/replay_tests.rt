@@ -1,6 +1,6 @@
-use super::run;
 use super::tests::answered;
 use blk_device::{ImageDevices, NamedBytes};
+use ipe_program::run;
 use ipe_words::{MemorySink, MemorySource};
 use std::alloc::{AllocError, Global};
 use std::test::Fail;
@@ -290,56 +290,5 @@ fn the_bit_of_value_4_is_evaluated(rt: HostRuntime) -> Result<(), Fail> {
             assert!(rt; written.as_slice().ends_with(expected.as_bytes()), "{hook}");
         }
     }
-    Ok(())
-}
-
-/// Hooks that aren't evaluated stand before and behind others: examples/hooks.requests
-const NOT_EVALUATED_HOOKS: &str = "ipe-requests 1
-workers 1
-text a 3
-policy_name=a policy_version=1.0.0
-DEFAULT action=DENY
-op=EXECUTE boot_verified=TRUE action=ALLOW
-text init 1
-hello
-file /init boot rootfs 2 init
-mark policy trusted text a
-phase
-w1 mmap 5 ld 3 /init
-phase
-admin write new_policy text a
-admin write policies/a/active echo 1
-w1 mmap 5 ld 1 /init
-w1 mprotect 5 ld 1 4 -
-w1 exec 1 init /init
-w1 mmap 5 ld 2 /init
-w1 load 3 udev policy
-end
-";
-
-const NOT_EVALUATED_HOOKS_ANSWER: &str = "ipe-transcript 1
-phase 1
-line=12 w1 code=0 epoch=- count=- policy=- by=-
-phase 2
-line=16 w1 code=0 epoch=- count=- policy=- by=-
-line=17 w1 code=0 epoch=- count=- policy=- by=-
-line=14 admin code=0 epoch=0
-type=1422 policy_name=\"a\" policy_version=1.0.0 policy_digest=sha256:a12fb4d91e8e66793020762fce63ca775103cd329a72d6a4734d290181673120 auid=4294967295 ses=4294967295 lsm=ipe res=1 errno=0
-line=15 admin code=0 epoch=1
-type=1421 old_active_pol_name=? old_active_pol_version=? old_policy_digest=? new_active_pol_name=\"a\" new_active_pol_version=1.0.0 new_policy_digest=sha256:a12fb4d91e8e66793020762fce63ca775103cd329a72d6a4734d290181673120 auid=4294967295 ses=4294967295 lsm=ipe res=1
-line=18 w1 code=0 epoch=1 count=0 policy=1 by=rule:1
-line=19 w1 code=0 epoch=- count=- policy=- by=-
-line=20 w1 code=-13 epoch=1 count=1 policy=1 by=global
-type=1420 ipe_op=POLICY ipe_hook=KERNEL_LOAD enforcing=1 pid=3 comm=\"udev\" path=? dev=? ino=? rule=\"DEFAULT action=DENY\"
-end
-";
-
-#[test]
-fn hooks_without_a_place_stand_behind_their_workers_previous_line(
-    rt: HostRuntime,
-) -> Result<(), Fail> {
-    let (status, written) = answered(rt.alloc(), &["replay"], NOT_EVALUATED_HOOKS.as_bytes())?;
-    assert_eq!(rt; status, 0);
-    assert_eq!(rt; written.as_slice(), NOT_EVALUATED_HOOKS_ANSWER.as_bytes());
     Ok(())
 }

@@ -1,6 +1,6 @@
-use super::run;
 use super::tests::{answered, owned};
 use blk_device::{MemoryDevices, NamedBytes};
+use ipe_program::run;
 use ipe_words::{Bytes, MemorySink, MemorySource};
 use std::alloc::{AllocError, Global};
 use std::test::Fail;

@@ -1,5 +1,5 @@
-use super::run;
 use blk_device::{ImageDevices, NamedBytes};
+use ipe_program::run;
 use ipe_words::{MemorySink, MemorySource};
 use std::alloc::{AllocError, Global};
 

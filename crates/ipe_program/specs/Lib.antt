@@ -1,0 +1,7 @@
+pub mod Replay
+pub mod Lint
+pub mod Tree
+pub mod Measure
+pub mod Asked
+pub mod Table
+pub mod Serving

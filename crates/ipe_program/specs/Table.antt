@@ -1,0 +1,94 @@
+-- What is read, which devices are asked and what is written, for all that can be asked.
+use Rattle.std.specs.Prelude.{◌≡◌, ℕ, ◌<◌, ◌≤◌, Bool, true, false, codes, List, [], length, Option, Some, None, IfSome, ◌⊎◌}
+use Rattle.blk_device.specs.Contents.{Contents}
+use Rattle.ipe_program.specs.declared.asked.Asked.{Asked}
+use Rattle.ipe_program.specs.declared.asked.Asked.TheVariants.{Replay, Lint, Measure, Tree}
+use Rattle.ipe_program.specs.Lint.{IsLinted, IsFaulty}
+use Rattle.ipe_program.specs.Measure.{measure_text}
+use Rattle.ipe_program.specs.Replay.{IsReplay, IsBadLine}
+use Rattle.ipe_program.specs.Tree.{IsOfTree, IsTreeRefusal}
+use Rattle.ipe_words.specs.declared.status.Status.{Status}
+use Rattle.ipe_words.specs.declared.status.Status.TheVariants as ends
+use Rattle.line_words.specs.Lines.{line_text}
+
+-- what is answered to what is asked: the most bytes of the input, if it is read; whether devices are asked; and what text
+-- it is where it is done, and where it is refused, by the bytes that are read and what the devices hold
+pub record Row : Type 1 where
+  pub most_input : Option ℕ
+  pub asks_devices : Bool
+  pub IsDone : List ℕ → Contents → List ℕ → Type 0
+  pub IsRefused : List ℕ → Contents → List ℕ → Type 0
+
+-- the table of all that can be asked
+abbrev pub row : Asked → Row
+row Replay = record {
+  most_input = Some 16777216;
+  asks_devices = false;
+  IsDone = λ input held text. IsReplay input text;
+  IsRefused = λ input held text. IsBadLine input text;
+}
+row Lint = record {
+  most_input = Some 1048576;
+  asks_devices = false;
+  IsDone = λ input held text. IsLinted input text;
+  IsRefused = λ input held text. IsFaulty input text;
+}
+row (Measure tree) = record {
+  most_input = Some 16777216;
+  asks_devices = false;
+  IsDone = λ input held text. text ≡ measure_text input tree;
+  IsRefused = λ input held text. ⊥;
+}
+row (Tree part tree) = record {
+  most_input = None;
+  asks_devices = true;
+  IsDone = λ input held text. IsOfTree part held tree text;
+  IsRefused = λ input held text. IsTreeRefusal held tree text;
+}
+
+-- the input is within the limit, where there is one
+abbrev pub Fits : Option ℕ → List ℕ → Type 0
+Fits most input = IfSome most (λ most. length input ≤ most)
+
+-- the input is above the limit, and the text says so
+abbrev pub IsTooLong : Option ℕ → List ℕ → List ℕ → Type 0
+IsTooLong None input text = ⊥
+IsTooLong (Some most) input text = (most < length input) × (text ≡ line_text (codes "refused: too long"))
+
+-- what is so where a status is done, and what where it is refused; no other comes with a text
+abbrev pub ByStatus : Type 0 → Type 0 → Status → Type 0
+ByStatus IsDone IsRefused ends.Done = IsDone
+ByStatus IsDone IsRefused ends.No = ⊥
+ByStatus IsDone IsRefused ends.Usage = ⊥
+ByStatus IsDone IsRefused ends.Refused = IsRefused
+ByStatus IsDone IsRefused ends.ReadFault = ⊥
+ByStatus IsDone IsRefused ends.WriteFault = ⊥
+ByStatus IsDone IsRefused ends.DeviceFault = ⊥
+ByStatus IsDone IsRefused ends.NoMemory = ⊥
+
+-- the statuses of an answer
+abbrev pub HasText : Status → Type 0
+HasText status = (status ≡ ends.Done) ⊎ (status ≡ ends.Refused)
+
+-- the text that is written for what is asked, by the status, the input and what the devices hold
+abbrev pub IsAnswer : Asked → Status → List ℕ → Contents → List ℕ → Type 0
+IsAnswer asked status input held text =
+    IsTooLong (row asked).most_input input text × (status ≡ ends.Refused)
+    ⊎ Fits (row asked).most_input input
+    × ByStatus ((row asked).IsDone input held text) ((row asked).IsRefused input held text) status
+
+-- what is told of the input, and nothing where it isn't read
+abbrev pub input_for : Option ℕ → Option (List ℕ) → Option (List ℕ)
+input_for None told = Some []
+input_for (Some most) told = told
+
+-- what is told of the devices, and nothing where none is asked
+abbrev pub held_for : Bool → Option Contents → Option Contents
+held_for false told = Some []
+held_for true told = told
+
+-- it is so where all that the answer is made of is told
+abbrev pub WhereTold : Asked → Option (List ℕ) → Option Contents → (List ℕ → Contents → Type 0) → Type 0
+WhereTold asked input held IsSo =
+    IfSome (input_for (row asked).most_input input) (λ bytes.
+    IfSome (held_for (row asked).asks_devices held) (λ items. IsSo bytes items))

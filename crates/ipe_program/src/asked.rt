@@ -1,0 +1,155 @@
+ghost use Rattle.std.specs.Prelude.{◌≡◌, ◌≢◌, IfOk, IfSome, IsTrue, None, OnErr, map, string_bytes};
+ghost use Rattle.fsv_tree.specs.Blocks.{is_block_size};
+ghost use Rattle.ipe_program.specs.Asked.{HasRule, asked_by, file_block_size_of, measure_by, tree_by};
+ghost use Rattle.ipe_program.specs.Table.{row};
+
+use dmv_tree::{Salt, block_size_of};
+use line_words::{Bytes, is_visible_word};
+use std::alloc::{AllocError, Global};
+
+/// The most digits of the salt of a device's tree.
+const MOST_DEVICE_DIGITS: usize = 512;
+
+/// The most bytes of a device's name.
+const MOST_DEVICE_NAME: usize = 255;
+
+/// The most digits of the salt of a file's tree.
+const MOST_FILE_DIGITS: usize = 64;
+
+/// What can be asked for.
+#[derive(Debug, Drop)]
+pub enum Asked {
+    /// The transcript of the request file that is read.
+    Replay,
+    /// What the linter says of the policy that is read.
+    Lint,
+    /// The file digest for fs-verity of the file that is read.
+    Measure(FileTree),
+    /// A part of the hash tree for dm-verity over a device's image.
+    Tree(TreePart, ImageTree),
+}
+
+/// A hash tree over a file: how many bytes a block has, and the salt.
+#[derive(Debug, Drop)]
+pub struct FileTree {
+    pub block_size: u32,
+    pub salt: Bytes,
+}
+
+/// A hash tree over the image of a device: how many bytes a block has, the salt, and the device's name.
+#[derive(Debug, Drop)]
+pub struct ImageTree {
+    pub block_size: u32,
+    pub salt: Bytes,
+    pub device: Bytes,
+}
+
+/// What is written of a hash tree: its root and shape, or its hash blocks as they are stored on a hash device.
+#[derive(Clone, Copy, Debug, PartialEq, Eq)]
+pub enum TreePart {
+    Root,
+    HashBlocks,
+}
+
+impl Asked {
+    /// `measure` with copies of these.
+    pub fn measure(alloc: Global, block_size: u32, salt: &[u8]) -> Result<Asked, AllocError>
+        ensures { IfOk result (λ asked. asked ≡ Asked.Measure (record { block_size = block_size; salt = salt.now })) }
+    {
+        let salt = Bytes::from_vec(salt.to_vec(alloc)?);
+        Ok(Asked::Measure(FileTree { block_size, salt }))
+    }
+
+    /// A part of a tree, with copies of these.
+    pub fn tree(
+        alloc: Global,
+        part: TreePart,
+        block_size: u32,
+        salt: &[u8],
+        device: &[u8],
+    ) -> Result<Asked, AllocError>
+        ensures { IfOk result (λ asked. asked
+            ≡ Asked.Tree part (record { block_size = block_size; salt = salt.now; device = device.now })) }
+    {
+        let tree = ImageTree {
+            block_size,
+            salt: Bytes::from_vec(salt.to_vec(alloc)?),
+            device: Bytes::from_vec(device.to_vec(alloc)?),
+        };
+        Ok(Asked::Tree(part, tree))
+    }
+
+    /// The most bytes that are read for it, if any are.
+    pub(crate) fn most_input(&self) -> Option<u64>
+        ensures { result ≡ (row self.now).most_input }
+    {
+        match self {
+            Asked::Replay | Asked::Measure(_) => Some(16_777_216),
+            Asked::Lint => Some(1_048_576),
+            Asked::Tree(..) => None,
+        }
+    }
+}
+
+/// What the arguments ask for, if they ask for anything.
+pub(crate) fn asked_by(alloc: Global, words: &Vec<String>) -> Result<Option<Asked>, AllocError>
+    ensures asked { IfOk result (λ asked. asked ≡ asked_by (map string_bytes words.now.items)) }
+    ensures rule { IfOk result (λ asked. IfSome asked HasRule) }
+    ensures no_memory { OnErr result (asked_by (map string_bytes words.now.items) ≢ None) }
+{
+    match words.as_slice() {
+        [word] if word.as_str() == "replay" => Ok(Some(Asked::Replay)),
+        [word] if word.as_str() == "lint" => Ok(Some(Asked::Lint)),
+        [word, size, salt] if word.as_str() == "measure" => measure_by(alloc, size, salt),
+        [word, size, salt, device] if word.as_str() == "root" => {
+            tree_by(alloc, TreePart::Root, size, salt, device)
+        }
+        _ => Ok(None),
+    }
+}
+
+fn measure_by(alloc: Global, size: &String, salt: &String) -> Result<Option<Asked>, AllocError>
+    ensures asked { IfOk result (λ asked. asked ≡ measure_by (string_bytes size.now) (string_bytes salt.now)) }
+    ensures rule { IfOk result (λ asked. IfSome asked HasRule) }
+    ensures no_memory { OnErr result (measure_by (string_bytes size.now) (string_bytes salt.now) ≢ None) }
+{
+    let salt = Salt::read(salt.as_bytes(), MOST_FILE_DIGITS);
+    match (file_block_size_of(size.as_bytes()), salt) {
+        (Some(block_size), Some(salt)) => {
+            Ok(Some(Asked::measure(alloc, block_size, salt.as_slice())?))
+        }
+        _ => Ok(None),
+    }
+}
+
+/// The part of a tree that three arguments ask for: the size of a block, the salt and the device.
+pub fn tree_by(
+    alloc: Global,
+    part: TreePart,
+    size: &String,
+    salt: &String,
+    device: &String,
+) -> Result<Option<Asked>, AllocError>
+    ensures asked { IfOk result (λ asked. asked
+        ≡ tree_by part (string_bytes size.now) (string_bytes salt.now) (string_bytes device.now)) }
+    ensures rule { IfOk result (λ asked. IfSome asked HasRule) }
+    ensures no_memory { OnErr result
+        (tree_by part (string_bytes size.now) (string_bytes salt.now) (string_bytes device.now) ≢ None) }
+{
+    let salt = Salt::read(salt.as_bytes(), MOST_DEVICE_DIGITS);
+    let device = device.as_bytes();
+    match (block_size_of(size.as_bytes()), salt) {
+        (Some(block_size), Some(salt)) if is_visible_word(device, MOST_DEVICE_NAME) => {
+            let salt = salt.as_slice();
+            Ok(Some(Asked::tree(alloc, part, block_size, salt, device)?))
+        }
+        _ => Ok(None),
+    }
+}
+
+fn file_block_size_of(word: &[u8]) -> Option<u32>
+    ensures size { result ≡ file_block_size_of word.now }
+    ensures rule { IfSome result (λ size. IsTrue (is_block_size size)) }
+{
+    block_size_of(word).filter(|size| *size != 512)
+}

@@ -1,0 +1,23 @@
+//! The program `ipegate` as a library: from words, a source and devices to a sink.
+//!
+//! [`run`] reads what its words ask and serves it. What can be asked is the enum [`Asked`], and [`serve`] is the one shell
+//! around all of it: it reads the source as far as that is wanted, makes the whole answer, and writes it. [`lint`],
+//! [`measure`] and [`root`] serve without words.
+#![tactic(auto)]
+
+mod answers;
+mod asked;
+mod edge;
+mod linting;
+mod measuring;
+mod replaying;
+mod serving;
+mod telling;
+
+pub use asked::{Asked, FileTree, ImageTree, TreePart, tree_by};
+pub use edge::arguments;
+pub use serving::{lint, measure, root, run, serve};
+pub use telling::Refusal;
+
+#[cfg(test)]
+mod tests;

@@ -1,5 +1,0 @@
-pub mod Program
-pub mod Lint
-pub mod Root
-pub mod Measure
-pub mod Words
