@@ -9,7 +9,7 @@ mod tree;
 mod words;
 
 pub use hash_tree::Shape;
-pub use shape::{is_block_size, layout};
+pub use shape::{are_blocks, is_block_size, layout};
 pub use tree::{Tree, build};
 pub use words::{Salt, block_size_of};
 

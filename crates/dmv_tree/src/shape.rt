@@ -1,16 +1,29 @@
-ghost use Rattle.dmv_tree.specs.Blocks.{is_block_size};
+ghost use Rattle.dmv_tree.specs.Blocks.{AreBlocks, is_block_size};
 ghost use Rattle.hash_tree.specs.Hash.{sha256_hash};
 ghost use Rattle.hash_tree.specs.Shape.{height, tree_blocks};
 ghost use Rattle.hash_tree.specs.Tree.{fan_out};
-ghost use Rattle.std.specs.Prelude.{◌≡◌, ◌<◌, ◌≤◌, IsTrue};
+ghost use Rattle.std.specs.Prelude.{◌≡◌, ◌<◌, ◌≤◌, false, true, IsTrue};
 
 use hash_tree::{HashAlgorithm, Shape};
+
+/// The most blocks of an image.
+const MOST_BLOCKS: u64 = 4_096;
 
 /// Whether blocks may have this size, in bytes: 512, 1,024, 2,048 or 4,096.
 pub fn is_block_size(size: u64) -> bool
     ensures { result ≡ is_block_size size }
 {
     size == 512 || size == 1024 || size == 2048 || size == 4096
+}
+
+/// Whether so many bytes are 1 to 4,096 whole blocks of this size: those that have a tree.
+pub fn are_blocks(bytes: u64, block_size: u32) -> bool
+    requires { IsTrue (is_block_size block_size) }
+    ensures yes { result ≡ true → AreBlocks bytes block_size }
+    ensures no { result ≡ false → AreBlocks bytes block_size → ⊥ }
+{
+    let block_size = u64::from(block_size);
+    bytes != 0 && bytes % block_size == 0 && bytes / block_size <= MOST_BLOCKS
 }
 
 /// The shape of the tree over this many blocks, 1 to 4,096, of 512, 1,024, 2,048 or 4,096 bytes each.

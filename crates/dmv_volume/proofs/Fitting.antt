@@ -4,7 +4,8 @@ use Rattle.std.specs.Prelude.{IsTrue, ◌==◌, codes}
 use Rattle.std.specs.Borrow.{Bor}
 use Rattle.std.proofs.lemmas.Bool.{cases_lt, cases_eq, eqb-true, false≢true, or_cases}
 use Rattle.std.proofs.lemmas.List.{get_or_past, length-map}
-use Rattle.dmv_volume.specs.Words.{AreWhole, IsFirstBad, OneFirstBad, WholeOrBad, WordFits, WordsFit, is_name, may_end, seen, word_at}
+use Rattle.dmv_volume.specs.Words.{AreWhole, IsFirstBad, OneFirstBad, WholeOrBad, WordFits, WordsFit, is_name, may_end, word_at}
+use Rattle.line_words.specs.Lines.{seen}
 
 -- as many words are seen as there are
 pub seen_count : (words : List (Bor (List ℕ))) → length (seen words) ≡ length words

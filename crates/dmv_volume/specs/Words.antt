@@ -1,22 +1,10 @@
 -- The words of a verity target's table line, as the Linux kernel's admin-guide/device-mapper/verity.rst has them.
-use Rattle.std.specs.Prelude.{◌≡◌, ℕ, zero, suc, ◌-◌, ◌%◌, ◌≤◌, ◌==◌, ◌&&◌, ◌||◌, ◌⊎◌, Bool, IsTrue, nat_le, codes, List, [], ◌∷◌, length, map, slice_index_or, Option, Some, None}
-use Rattle.std.specs.Borrow.{Bor}
+use Rattle.std.specs.Prelude.{◌≡◌, ℕ, zero, suc, ◌-◌, ◌%◌, ◌≤◌, ◌==◌, ◌||◌, ◌⊎◌, Bool, IsTrue, codes, List, [], ◌∷◌, length, slice_index_or, Option, Some, None}
 use Rattle.std.specs.Fmt.{decimal}
-use Rattle.std.specs.List.{AllPass, list_all, slice_get, slice_split}
+use Rattle.std.specs.List.{AllPass, slice_get}
+use Rattle.line_words.specs.Words.{is_visible, is_word}
 use Rattle.hex.specs.Hex.{is_hex_digit}
 use Rattle.dmv_tree.specs.Blocks.{is_block_size}
-
--- the blank at which a line is cut
-abbrev pub is_blank : ℕ → Bool
-is_blank byte = byte == 32
-
--- the words of a line: what stands between its blanks, and an empty word is one too
-abbrev pub words_of : List ℕ → List (List ℕ)
-words_of line = slice_split is_blank line
-
--- words as they are seen through references
-abbrev pub seen : List (Bor (List ℕ)) → List (List ℕ)
-seen words = map (λ (word : Bor (List ℕ)). word.now) words
 
 -- the word of a number, counted from 1; one that is missing is empty
 abbrev pub word_at : List (List ℕ) → ℕ → List ℕ
@@ -44,13 +32,9 @@ rules =
 abbrev pub may_end : ℕ → Bool
 may_end count = (count == 10) || (count == 13)
 
--- visible ASCII
-abbrev pub is_visible : ℕ → Bool
-is_visible byte = nat_le 0x21 byte && nat_le byte 0x7E
-
 -- a name: 1 to 255 visible bytes
 abbrev pub is_name : List ℕ → Bool
-is_name word = nat_le 1 (length word) && nat_le (length word) 255 && list_all is_visible word
+is_name word = is_word 1 255 is_visible word
 
 -- hexadecimal digits of either case, an even number of them, between two others
 abbrev pub AreDigits : ℕ → ℕ → List ℕ → Type 0

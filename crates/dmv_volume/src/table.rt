@@ -1,5 +1,6 @@
 ghost use Rattle.dmv_volume.specs.Table.{HasLimits, IsReason, Say};
-ghost use Rattle.dmv_volume.specs.Words.{AreWhole, OneFirstBad, WholeOrBad, WordsFit, seen, word_at, words_of};
+ghost use Rattle.dmv_volume.specs.Words.{AreWhole, OneFirstBad, WholeOrBad, WordsFit, word_at};
+ghost use Rattle.line_words.specs.Lines.{seen, words_of};
 ghost use Rattle.dmv_tree.specs.Blocks.{is_block_size};
 ghost use Rattle.dmv_tree.specs.Words.{salt_of};
 ghost use Rattle.hash_tree.specs.Hash.{sha256_hash};
@@ -9,8 +10,9 @@ ghost use Rattle.hex.specs.Hex.{decode_of};
 ghost use Rattle.std.specs.Fmt.{decimal};
 ghost use Rattle.std.specs.Prelude.{◌≡◌, ◌<◌, ◌≤◌, ◌==◌, ℕ, IsTrue, IfErr, IfOk, Some, length};
 
-use crate::words::{is_name, number_of, root_of, word_at, words_of};
+use crate::words::{is_name, number_of, root_of, word_at};
 use dmv_tree::{Salt, block_size_of, layout};
+use line_words::words_of;
 use std::alloc::{AllocError, Global};
 use std::marker::Model;
 

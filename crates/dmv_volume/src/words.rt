@@ -1,19 +1,11 @@
-ghost use Rattle.dmv_volume.specs.Words.{AreDigits, Meets, is_name, is_visible, seen, word_at, words_of};
+ghost use Rattle.dmv_volume.specs.Words.{AreDigits, Meets, is_name, word_at};
+ghost use Rattle.line_words.specs.Lines.{seen};
 ghost use Rattle.dmv_volume.specs.Words.Rule.{Number};
 ghost use Rattle.hex.specs.Hex.{decode_of};
 ghost use Rattle.std.specs.Fmt.{decimal as decimal_text};
-ghost use Rattle.std.specs.List.{list_all};
 ghost use Rattle.std.specs.Prelude.{◌≡◌, ◌-◌, ◌≤◌, Ok, IfNone, IfOk, IfSome, []};
 
-use ipe_words::decimal;
-use std::alloc::{AllocError, Global};
-
-// The words of a line: each blank parts two.
-pub(crate) fn words_of(alloc: Global, line: &[u8]) -> Result<Vec<&[u8]>, AllocError>
-    ensures { IfOk result (λ words. seen words.items ≡ words_of line.now) }
-{
-    line.split(|byte| *byte == b' ').collect(alloc)
-}
+use line_words::{decimal, is_visible_word};
 
 // The word of a number, counted from 1. One that is missing is empty.
 pub(crate) fn word_at<'a>(words: &[&'a [u8]], number: usize) -> &'a [u8]
@@ -26,22 +18,10 @@ pub(crate) fn word_at<'a>(words: &[&'a [u8]], number: usize) -> &'a [u8]
     }
 }
 
-fn is_visible(byte: u8) -> bool
-    ensures { result ≡ is_visible byte }
-{
-    (0x21..=0x7E).contains(&byte)
-}
-
-fn all_visible(word: &[u8]) -> bool
-    ensures { result ≡ list_all is_visible word.now }
-{
-    word.iter().all(|byte| is_visible(*byte))
-}
-
 pub(crate) fn is_name(word: &[u8]) -> bool
     ensures { result ≡ is_name word.now }
 {
-    1 <= word.len() && word.len() <= 255 && all_visible(word)
+    is_visible_word(word, 255)
 }
 
 // The number that a word says, where it is from `low` to `high`.

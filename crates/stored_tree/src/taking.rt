@@ -11,13 +11,13 @@ use arrayvec::ArrayVec;
 use blk_device::{Devices, VerityError, read_exact_at};
 use hash_tree::{HashAlgorithm, held, layout};
 
-/// Takes the hash blocks over data block `i`, from the top level down, and says which digest they want of that block:
-/// the root, where no level stands above the data. Each is read through `buffer`, which has the size of a block, and is
-/// checked before the next one is read. What the path had before is taken away.
-///
-/// The error says which block was the first that failed, or that the device failed or isn't there; the path then ends
-/// with the block that failed, or the last one that was read.
-pub fn take_hash_blocks<D: Devices>(
+// Takes the hash blocks over data block `i`, from the top level down, and says which digest they want of that block:
+// the root, where no level stands above the data. Each is read through `buffer`, which has the size of a block, and is
+// checked before the next one is read. What the path had before is taken away.
+//
+// The error says which block was the first that failed, or that the device failed or isn't there; the path then ends
+// with the block that failed, or the last one that was read.
+pub(crate) fn take_hash_blocks<D: Devices>(
     tree: &StoredTree,
     path: &mut BlockPath,
     dev: &mut D,
@@ -74,9 +74,9 @@ pub fn take_hash_blocks<D: Devices>(
     Ok(wanted)
 }
 
-/// Adds data block `i` to the path of the hash blocks over it, which want this digest, and checks it. The only error
-/// is that it is corrupt.
-pub fn check_data_block(
+// Adds data block `i` to the path of the hash blocks over it, which want this digest, and checks it. The only error
+// is that it is corrupt.
+pub(crate) fn check_data_block(
     tree: &StoredTree,
     path: &mut BlockPath,
     i: u64,

@@ -1,5 +1,5 @@
 use Rattle.std.proofs.Common.{ℕ, List, arith, rules}
-use Rattle.dmv_volume.specs.Words.{seen}
+use Rattle.line_words.specs.Lines.{seen}
 use Rattle.dmv_volume.proofs.Fitting.{Option, seen_count, whole, has, too_many}
 use Rattle.dmv_volume.proofs.table.option_of.Goals as goal
 
