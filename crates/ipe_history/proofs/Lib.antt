@@ -13,3 +13,4 @@ pub mod Phases
 pub mod Steps
 pub mod Reading
 pub mod Spelling
+pub mod Events

@@ -1,4 +1,5 @@
 pub mod Order
+pub mod Events
 pub mod Printed
 pub mod Transcript
 pub mod Spelled

@@ -1,3 +1,4 @@
+ghost use Rattle.ipe_history.specs.Events.{LinesAreEvents, VersionNeverFallsAlongLines};
 ghost use Rattle.ipe_history.specs.Order.{IsFileOrder, IsInPlace, IsWeave};
 ghost use Rattle.ipe_history.specs.Printed.{printed};
 ghost use Rattle.ipe_history.specs.Spelled.{NumbersBelow, numbers_of, spelled};
@@ -8,6 +9,8 @@ ghost use Rattle.ipe_script.specs.Grammar.{requests_of};
 ghost use Rattle.ipe_script.specs.Script.{Script};
 ghost use Rattle.std.specs.List.{sum_by};
 ghost use Rattle.std.specs.Prelude.{◌≡◌, ℕ, ◌+◌, ◌^◌, ◌≤◌, List, length, map, Ok};
+
+use ipe_machine::active_version_never_falls;
 
 /// Each line's own order is kept where the lines of each phase are printed as `printed` says, and each line stands in
 /// its place. A bound of the numbers of lines bounds them as they are printed, too, and words that meet their rules
@@ -39,3 +42,12 @@ pub fn transcripts_spell_their_order()
     ensures spells { (script : Script) (order : List (List PhaseLine)) → HasWords script order →
         NumbersBelow (2 ^ 32) order → spelled (transcript script order) ≡ numbers_of order }
 {}
+
+/// The lines of a request file are the machine's own events, whatever order they come in; so once a policy is active, one
+/// stays active along them, and its version doesn't fall.
+pub fn active_version_never_falls_along_lines()
+    ensures events { LinesAreEvents }
+    ensures versions { VersionNeverFallsAlongLines }
+{
+    active_version_never_falls();
+}

@@ -7,6 +7,7 @@ mod laws;
 mod parts;
 
 pub use laws::{
-    printed_order_is_in_place, requests_are_in_file_order, transcripts_spell_their_order,
+    active_version_never_falls_along_lines, printed_order_is_in_place, requests_are_in_file_order,
+    transcripts_spell_their_order,
 };
 pub use parts::printed_parts;

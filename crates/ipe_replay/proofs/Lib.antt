@@ -1,3 +1,4 @@
+pub mod DigestLemmas
 pub mod HookLemmas
 pub mod LineLemmas
 pub mod RoomLemmas

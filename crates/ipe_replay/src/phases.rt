@@ -1,6 +1,7 @@
-ghost use Rattle.std.specs.Prelude.{◌≡◌, ◌<◌, ◌^◌, ◌++◌, codes, length, map, IfOk, OnOk, sum_by};
+ghost use Rattle.std.specs.Prelude.{List, ◌≡◌, ◌<◌, ◌^◌, ◌++◌, codes, length, map, IfOk, OnOk, sum_by};
 ghost use Rattle.std.specs.Fmt.{decimal};
-ghost use Rattle.ipe_history.specs.Order.{line_reply, after_line, after_lines};
+ghost use Rattle.ipe_script.specs.declared.script.PhaseLine.{PhaseLine};
+ghost use Rattle.ipe_history.specs.Order.{IsFileOrder, IsInPlace, IsWeave, line_reply, after_line, after_lines};
 ghost use Rattle.ipe_history.specs.Printed.{printed};
 ghost use Rattle.ipe_history.specs.Transcript.{entry_of, lines_text, phases_text, transcript};
 ghost use Rattle.ipe_transcript.specs.Lines.{entry_text};
@@ -12,7 +13,7 @@ use crate::hooks::hook_entry;
 use crate::marks::signer_of;
 use crate::running::{Replay, Running};
 use ipe_core::State;
-use ipe_history::printed_parts;
+use ipe_history::{printed_order_is_in_place, printed_parts};
 use ipe_script::{Phase, PhaseLine, Requests, Task};
 use ipe_transcript::{Entry, print_entry};
 use std::alloc::{AllocError, Global};
@@ -120,11 +121,15 @@ fn replay_phases(
 }
 
 /// The transcript of the file's lines: in each phase the hooks before the first that is evaluated, the administrator's
-/// lines, and the other hooks. The records that a line makes stand behind its entry.
+/// lines, and the other hooks. The records that a line makes stand behind its entry. Where the lines of each phase are in
+/// the order of the file, this is an order that keeps each one's lines in that one's order and has each entry in its place.
 pub fn replay(alloc: Global, requests: &Requests) -> Result<Vec<u8>, AllocError>
     requires { sum_by length requests.now.phases < 2 ^ 32 }
-    ensures { IfOk result (λ text. text.items ≡ transcript requests.now (map printed requests.now.phases)) }
+    ensures text { IfOk result (λ text. text.items ≡ transcript requests.now (map printed requests.now.phases)) }
+    ensures order { IsFileOrder requests.now → IfOk result (λ text. (order : List (List PhaseLine))
+        × IsWeave requests.now order × IsInPlace requests.now order × (text.items ≡ transcript requests.now order)) }
 {
+    printed_order_is_in_place();
     let replay = Replay {
         alloc,
         requests,

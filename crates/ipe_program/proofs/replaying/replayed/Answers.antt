@@ -37,6 +37,6 @@ returns-in_ok-replay-in-Ok c =
       one_spelling = c.in-Ok.ensures.spelled;
       weave = printed_weaves c.in-Ok.requests (requests_in_order c.args.input.now c.in-Ok.requests c.in-Ok.ensures.asked);
       in_place = printed_in_place c.in-Ok.requests (requests_in_order c.args.input.now c.in-Ok.requests c.in-Ok.ensures.asked);
-      bytes = c.in_ok-replay-in-Ok.ensures;
-      spells = spells_order c.args.input.now _ c.in-Ok.requests c.requires c.in-Ok.ensures.asked c.in_ok-replay-in-Ok.ensures;
+      bytes = c.in_ok-replay-in-Ok.ensures.text;
+      spells = spells_order c.args.input.now _ c.in-Ok.requests c.requires c.in-Ok.ensures.asked c.in_ok-replay-in-Ok.ensures.text;
     })
