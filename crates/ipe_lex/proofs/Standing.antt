@@ -4,7 +4,7 @@ use Rattle.std.specs.List.{AllByRecursion, after_first, before_first, enumerate_
 use Rattle.std.proofs.lemmas.List.{take-take}
 use Rattle.ipe_lex.specs.Lines.{PlacedToken, goes_on, is_comment_sign, is_separator, lines_of, onto_token, placed_lines, placed_tokens, tokens_of, uncommented}
 use Rattle.line_words.specs.Lines.{is_line_feed}
-use Rattle.ipe_lex.specs.Places.{IsLineOf, IsTokenOf}
+use Rattle.ipe_lex.specs.Places.{IsLineOf, IsTokenOf, StandsAt}
 use Rattle.ipe_lex.proofs.Cuts.{cut-cases, either, lines_of-first, placed_tokens-first}
 
 all-weaker : {X : Type 0} (P Q : X → Type 0) → ((x : X) → P x → Q x) → (xs : List X) → AllByRecursion P xs → AllByRecursion Q xs
@@ -16,6 +16,13 @@ take_own : {X : Type 0} (n : ℕ) (xs : List X) → take (length (take n xs)) xs
 take_own zero xs = refl
 take_own (suc n) [] = refl
 take_own (suc n) (x ∷ xs) = ap (λ (r : List _). x ∷ r) (take_own n xs)
+
+-- what is taken of a front behind some elements is taken of the whole
+take-drop-take : (m at n : ℕ) (xs : List ℕ) → at + m ≤ n → take m (drop at (take n xs)) ≡ take m (drop at xs)
+take-drop-take m zero n xs room = take-take m n xs (omega (arith, room))
+take-drop-take m (suc at) zero xs room = absurd (omega arith)
+take-drop-take m (suc at) (suc n) [] room = refl
+take-drop-take m (suc at) (suc n) (x ∷ xs) room = take-drop-take m at n xs (omega (arith, room))
 
 -- ---- lines
 
@@ -122,3 +129,26 @@ tokens_without_places start (byte ∷ bytes) =
         | inr ends ↦ rw (stays, ends) (ap (λ (r : List (List ℕ)). (byte ∷ []) ∷ r) later)
       ]
     ]
+
+-- what stands in bytes that stand in a text stands in the text
+stands-in : (text : List ℕ) (start : ℕ) (bytes : List ℕ) → StandsAt text start bytes → (token : PlacedToken)
+    → IsTokenOf start bytes token → StandsAt text token.start token.bytes
+stands-in text start bytes outer token inner =
+    let n = length bytes in
+    let at = token.start - start in
+    let m = length token.bytes in
+    let place : start + at ≡ token.start = omega (arith, inner.after) in
+    let room : at + m ≤ n = inner.stands.within in
+    record {
+      within = omega (arith, inner.after, inner.stands.within, outer.within);
+      same = ap (λ k. take m (drop k text)) (sym place) ∙ ap (take m) (sym (drop-drop at start text))
+          ∙ sym (take-drop-take m at n (drop start text) room)
+          ∙ ap (λ bs. take m (drop at bs)) outer.same ∙ inner.stands.same;
+    }
+
+-- the tokens of a line that stands in a text stand in the text
+pub tokens_stand_in_text : (text : List ℕ) (start : ℕ) (bytes : List ℕ) → StandsAt text start bytes
+    → AllByRecursion (λ token. StandsAt text token.start token.bytes) (placed_tokens start bytes)
+tokens_stand_in_text text start bytes outer =
+    all-weaker (IsTokenOf start bytes) (λ token. StandsAt text token.start token.bytes) (stands-in text start bytes outer)
+    (placed_tokens start bytes) (tokens_stand start bytes)

@@ -1,14 +1,17 @@
-ghost use Rattle.std.specs.Prelude.{◌≡◌, ◌≤◌, length};
+ghost use Rattle.std.specs.Prelude.{◌≡◌, ◌≤◌, List, ℕ, length};
+ghost use Rattle.std.specs.List.{AllByRecursion};
 ghost use Rattle.ipe_lex.specs.Lines.{lines_of, placed_lines, placed_tokens};
+ghost use Rattle.ipe_lex.specs.Places.{IsLineOf, StandsAt};
 ghost use Rattle.ipe_lex.specs.Walks.{lines_left, tokens_left};
 
 use crate::{Line, LineWalk, TokenWalk};
 
 /// Every line of a text in order, numbered from 1 and without its comment. A last line without a line feed is a line
-/// too.
+/// too. Each is the slice of the text from its place on.
 pub fn lines(text: &[u8]) -> LineWalk<'_>
     requires { length text.now ≤ 1048576 }
-    ensures { lines_left result ≡ placed_lines 1 0 (lines_of text.now) }
+    ensures lines { lines_left result ≡ placed_lines 1 0 (lines_of text.now) }
+    ensures stand { AllByRecursion (IsLineOf text.now) (lines_left result) }
 {
     LineWalk {
         number: 1,
@@ -17,9 +20,12 @@ pub fn lines(text: &[u8]) -> LineWalk<'_>
     }
 }
 
-/// Every token of a line in order. Blanks, tabs and carriage returns part them.
+/// Every token of a line in order. Blanks, tabs and carriage returns part them. Each is the slice of the text from its
+/// place on.
 pub fn tokens(line: Line<'_>) -> TokenWalk<'_>
-    ensures { tokens_left result ≡ placed_tokens line.entry.start line.entry.bytes.now }
+    ensures tokens { tokens_left result ≡ placed_tokens line.entry.start line.entry.bytes.now }
+    ensures stand { (text : List ℕ) → StandsAt text line.entry.start line.entry.bytes.now →
+        AllByRecursion (λ token. StandsAt text token.start token.bytes) (tokens_left result) }
 {
     TokenWalk {
         start: line.start,

@@ -14,3 +14,4 @@ mod Bytes
 mod Values
 mod Printings
 pub mod Whole
+mod FirstFaults

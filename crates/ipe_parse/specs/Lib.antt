@@ -5,3 +5,4 @@ pub mod Given
 pub mod Reading
 pub mod Walk
 pub mod Reads
+pub mod FirstFault

@@ -1,5 +1,5 @@
 -- What each token and each line of a policy text stands for, or what is wrong with it.
-use Rattle.std.specs.Prelude.{ℕ, ◌-◌, ◌==◌, ◌&&◌, Bool, true, false, nat_eq, nat_le, if◌then◌else◌, codes, List, [], ◌∷◌, length, take, drop, Option, Some, None, Result, Ok, Err, slice_get}
+use Rattle.std.specs.Prelude.{ℕ, ◌-◌, ◌&&◌, Bool, true, false, nat_eq, nat_le, if◌then◌else◌, codes, List, [], ◌∷◌, length, take, drop, Option, Some, None, Result, Ok, Err, slice_get}
 use Rattle.std.specs.List.{before_first, after_first, starts_with, find}
 use Rattle.std.specs.Option.{option_map, option_and_then, ok_or}
 use Rattle.std.specs.Result.{result_ok}
@@ -30,6 +30,10 @@ Err error >>= next = Err error
 -- the token begins with this text
 abbrev pub begins : List ℕ → List ℕ → Bool
 begins text token = starts_with nat_eq token text
+
+-- what stands behind a key in a token
+abbrev pub behind : List ℕ → List ℕ → List ℕ
+behind key token = drop (length key) token
 
 -- the operation of a word
 abbrev pub op_named : List ℕ → Option Op
@@ -76,9 +80,9 @@ truth_property_of token =
 abbrev pub digest_property_of : List ℕ → Result Property BadKind
 digest_property_of token =
     if begins (codes "dmverity_roothash=") token
-    then ok_or (option_map DmverityRoothash (digest_of (drop 18 token))) BadDigest
+    then ok_or (option_map DmverityRoothash (digest_of (behind (codes "dmverity_roothash=") token))) BadDigest
     else if begins (codes "fsverity_digest=") token
-    then ok_or (option_map FsverityDigest (digest_of (drop 16 token))) BadDigest
+    then ok_or (option_map FsverityDigest (digest_of (behind (codes "fsverity_digest=") token))) BadDigest
     else Err BadProperty
 
 -- the first of two answers that is there
@@ -107,12 +111,12 @@ abbrev pub default_of : List (List ℕ) → Result Statement BadKind
 default_of [] = Err BadAction
 default_of (second ∷ others) =
     if begins (codes "op=") second
-    then (ok_or (op_named (drop 3 second)) BadOp >>= λ op. lone_action others >>= λ action. Ok (OpDefault op action))
+    then (ok_or (op_named (behind (codes "op=") second)) BadOp >>= λ op. lone_action others >>= λ action. Ok (OpDefault op action))
     else (lone_action (second ∷ others) >>= λ action. Ok (GlobalDefault action))
 
 -- the operation of the first token of a rule
 abbrev pub op_of : List ℕ → Option Op
-op_of token = if begins (codes "op=") token then op_named (drop 3 token) else None
+op_of token = if begins (codes "op=") token then op_named (behind (codes "op=") token) else None
 
 -- the rule of a line that begins with this token
 abbrev pub rule_of_line : List ℕ → List (List ℕ) → Result Statement BadKind
@@ -139,7 +143,7 @@ header_parts name version =
 abbrev pub header_words : List ℕ → List ℕ → Result Header BadKind
 header_words name version =
     if begins (codes "policy_name=") name && begins (codes "policy_version=") version
-    then header_parts (drop 12 name) (drop 15 version)
+    then header_parts (behind (codes "policy_name=") name) (behind (codes "policy_version=") version)
     else Err NoHeader
 
 -- the header of a line: exactly two tokens

@@ -2,6 +2,7 @@ ghost use Rattle.std.specs.Prelude.{◌≡◌, ◌≤◌, ◌⊎◌, ℕ, List, 
 ghost use Rattle.ipe_policy.specs.Policy.{PolicyParts};
 ghost use Rattle.ipe_policy.specs.Spelling.{policy_text};
 ghost use Rattle.ipe_parse.specs.declared.error.BadText.{BadText};
+ghost use Rattle.ipe_parse.specs.FirstFault.{TheReaderNamesTheFirstFault};
 ghost use Rattle.ipe_parse.specs.Reading.{reading};
 ghost use Rattle.ipe_parse.specs.Reads.{HasFault, Reads, ReadsAsOne};
 
@@ -16,6 +17,13 @@ pub fn reads_or_has_a_fault()
         Reads text policy }
     ensures one_or_fault { (text : List ℕ) → length text ≤ 1048576 →
         ((policy : PolicyParts) × ReadsAsOne text policy) ⊎ ((fault : BadText) × HasFault text fault) }
+{}
+
+/// The fault that the definition `reading` names is the first fault by the table of checks: the lines before have none, and
+/// the line fails this check of its row and none before it; or all lines are free of faults, and this is the first operation
+/// without a default.
+pub fn names_the_first_fault()
+    ensures { TheReaderNamesTheFirstFault }
 {}
 
 /// What is printed of a policy is read as that policy: `parse` of the printed text answers it, where the text is not too

@@ -16,5 +16,5 @@ mod token;
 mod walk;
 
 pub use error::{BadKind, BadText, ParseError};
-pub use law::{printed_is_read, reads_or_has_a_fault};
+pub use law::{names_the_first_fault, printed_is_read, reads_or_has_a_fault};
 pub use reading::parse;

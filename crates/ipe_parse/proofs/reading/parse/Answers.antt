@@ -6,12 +6,12 @@ use Rattle.ipe_parse.specs.Walk.{spoken_of}
 use Rattle.ipe_parse.proofs.reading.parse.Goals as goal
 
 pub read_lines-requires : goal.read_lines-requires
-read_lines-requires c = rw c.lines.ensures (omega (arith, placed_lines-few c.args.text.now, c.requires))
+read_lines-requires c = rw c.lines.ensures.lines (omega (arith, placed_lines-few c.args.text.now, c.requires))
 
 pub returns-clause-reading : goal.returns-clause-reading
 unfolding reading
 returns-clause-reading c =
-    let same = ap (λ left. filter is_spoken (map spoken_of left)) c.lines.ensures ∙ spoken_lines-placed c.args.text.now in
+    let same = ap (λ left. filter is_spoken (map spoken_of left)) c.lines.ensures.lines ∙ spoken_lines-placed c.args.text.now in
     rw same at c.read_lines.ensures
 
 pub returns-clause-policy : goal.returns-clause-policy
