@@ -5,3 +5,4 @@ pub mod Sound
 pub mod Written
 pub mod Counts
 pub mod Files
+pub mod Digests

@@ -8,18 +8,9 @@ use Rattle.std.proofs.lemmas.Nat.{from_le_bytes-to_le_bytes_8}
 use Rattle.hash_tree.specs.Tree.{filled}
 use Rattle.hash_tree.proofs.HashBlocks.{length-filled}
 use Rattle.fsv_tree.specs.Descriptor.{DescriptorParts, said_by, spelling, zeros, breaks, IsSound}
-use Rattle.fsv_tree.specs.Kept.{IsKept}
+use Rattle.fsv_tree.specs.Kept.{IsKept, MayBeSaid}
 use Rattle.fsv_tree.proofs.Table.{row_version, row_log, row_salt_size, row_reserved, row_size, row_size_rest, row_root, row_behind_root, row_salt, row_last}
 use Rattle.fsv_tree.proofs.Zeros.{length-zeros, get_or-zeros, get_or-filled, filled_is}
-
--- what a descriptor may say
-pub record MayBeSaid (parts : DescriptorParts) : Type 0 where
-  pub low : 10 ≤ parts.log
-  pub high : parts.log ≤ 12
-  pub short : length parts.salt ≤ 32
-  pub few : parts.size < 2 ^ 64
-  pub root_size : length parts.root ≡ 32
-  pub no_root : parts.size ≡ 0 → parts.root ≡ replicate 32 0
 
 -- fields that are kept say what may be said
 pub kept_says : (log salt_size : ℕ) (salt : List ℕ) (size : ℕ) (root : List ℕ) → IsKept log salt_size salt size root →
@@ -145,7 +136,7 @@ sound_front parts said place within = elim (cases_lt place 2) [
   ]
 ]
 
-number_said : (parts : DescriptorParts) → MayBeSaid parts →
+pub number_said : (parts : DescriptorParts) → MayBeSaid parts →
     from_le_bytes w64 (take 8 (drop 8 (spelling parts))) ≡ parts.size
 number_said parts said =
     ap (λ xs. from_le_bytes w64 (take 8 xs)) (behind_8 parts)

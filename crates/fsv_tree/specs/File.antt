@@ -1,10 +1,11 @@
 -- What a file's descriptor and its stored tree are.
-use Rattle.std.specs.Prelude.{◌≡◌, ℕ, List, [], ◌∷◌, length, replicate}
+use Rattle.std.specs.Prelude.{◌≡◌, ◌≢◌, ◌⊎◌, ℕ, List, [], ◌∷◌, length, replicate}
 use Rattle.sha2.specs.Sha256.{sha256}
 use Rattle.hash_tree.specs.Hash.{sha256_hash}
 use Rattle.hash_tree.specs.Tree.{data_blocks, root, stored}
 use Rattle.fsv_tree.specs.Blocks.{log_of, block_salt}
 use Rattle.fsv_tree.specs.Descriptor.{DescriptorParts, spelling}
+use Rattle.fsv_tree.specs.Kept.{MayBeSaid}
 
 -- the root of a file, from its block size, its salt and its bytes: of an empty file zeros, else that of the hash tree
 -- over its blocks
@@ -28,6 +29,12 @@ described bytes size salt = record {
 -- the file digest: of the descriptor's bytes
 abbrev pub file_digest : DescriptorParts → List ℕ
 file_digest parts = sha256 (spelling parts)
+
+-- law: descriptors with one file digest are the same, or the bytes that they spell differ and have one SHA-256
+abbrev pub DigestsTellDescriptors : Type 0
+DigestsTellDescriptors =
+    (one other : DescriptorParts) → MayBeSaid one → MayBeSaid other → file_digest one ≡ file_digest other →
+    (one ≡ other) ⊎ ((spelling one ≢ spelling other) × (sha256 (spelling one) ≡ sha256 (spelling other)))
 
 -- what was measured of a file: its descriptor, and its stored tree
 pub record MeasuredParts : Type 0 where

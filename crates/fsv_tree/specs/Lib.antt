@@ -1,4 +1,4 @@
 pub mod Blocks
 pub mod Descriptor
-pub mod File
 pub mod Kept
+pub mod File

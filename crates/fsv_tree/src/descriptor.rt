@@ -1,6 +1,7 @@
 ghost use Rattle.fsv_tree.specs.Blocks.{is_block_size, log_of};
 ghost use Rattle.fsv_tree.specs.Descriptor.{IsFirstBreak, IsSound, said_by, spelling};
 ghost use Rattle.fsv_tree.specs.File.{file_digest};
+ghost use Rattle.fsv_tree.specs.Kept.{MayBeSaid};
 ghost use Rattle.hash_tree.specs.Hash.{sha256_hash};
 ghost use Rattle.hash_tree.specs.Shape.{tree_blocks};
 ghost use Rattle.hash_tree.specs.Tree.{fan_out};
@@ -110,6 +111,7 @@ impl Descriptor {
         ensures bytes { result ≡ spelling self.now }
         ensures sound { IsSound result self.now.size }
         ensures again { said_by result self.now.size ≡ self.now }
+        ensures limits { MayBeSaid self.now }
     {
         let mut bytes = [0; 256];
         bytes[..4].copy_from_slice(&[1, 1, self.log, self.salt_size]);
@@ -121,7 +123,8 @@ impl Descriptor {
 
     /// The file digest: the SHA-256 of the 256 bytes.
     pub fn digest(&self) -> [u8; 32]
-        ensures { result ≡ file_digest self.now }
+        ensures digest { result ≡ file_digest self.now }
+        ensures limits { MayBeSaid self.now }
     {
         Sha256::digest(&self.write())
     }

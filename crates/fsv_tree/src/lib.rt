@@ -5,11 +5,13 @@
 #![tactic(auto)]
 
 mod descriptor;
+mod law;
 mod measure;
 mod rows;
 mod salt;
 
 pub use descriptor::{BadDescriptor, Descriptor};
+pub use law::digests_tell_descriptors;
 pub use measure::{Measured, measure_bytes};
 pub use salt::BlockSalt;
 

@@ -2,7 +2,8 @@ use Rattle.std.proofs.Common.{rules, ap, subst, sym, ◌∙◌}
 use Rattle.fsv_tree.specs.Descriptor.{IsSound, said_by}
 use Rattle.fsv_tree.proofs.Zeros.{zeros_are}
 use Rattle.fsv_tree.proofs.Written.{written}
-use Rattle.fsv_tree.proofs.Sound.{MayBeSaid, kept_says, said_again, sound_spelling}
+use Rattle.fsv_tree.specs.Kept.{MayBeSaid}
+use Rattle.fsv_tree.proofs.Sound.{kept_says, said_again, sound_spelling}
 use Rattle.fsv_tree.proofs.descriptor.Descriptor.write.Goals as goal
 
 pub returns-clause-bytes : goal.returns-clause-bytes
@@ -21,3 +22,6 @@ returns-clause-again c =
     let says : MayBeSaid c.args.self.now =
     rw (sym c.self.view_is) (kept_says _ _ _ _ _ c.self.invariant c.self.told.0 c.self.told.1) in
     ap (λ xs. said_by xs c.args.self.now.size) (returns-clause-bytes c) ∙ said_again c.args.self.now says
+
+pub returns-clause-limits : goal.returns-clause-limits
+returns-clause-limits c = rw (sym c.self.view_is) (kept_says _ _ _ _ _ c.self.invariant c.self.told.0 c.self.told.1)

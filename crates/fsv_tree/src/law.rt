@@ -1,0 +1,7 @@
+ghost use Rattle.fsv_tree.specs.File.{DigestsTellDescriptors};
+
+/// Two descriptors with one file digest are the same, unless the bytes that they spell differ and have one SHA-256. The
+/// call does nothing: its contract is the law.
+pub fn digests_tell_descriptors()
+    ensures { DigestsTellDescriptors }
+{}
