@@ -4,7 +4,7 @@ use Rattle.std.specs.List.{filter_map, cons_option}
 use Rattle.ipe_transcript.specs.Keys.{Key, Rises, own_of, FollowsItsOwn, StandsAtTheBeginning, UnplacedStand, AreInPlace, ArePrinted}
 
 module _ {X Y : Type 0} (actor : X → ℕ) (key : X → Option Key) (actor_y : Y → ℕ) (key_y : Y → Option Key) (f : X → Y) (same_actor : (x : X) → actor_y (f x) ≡ actor x) (same_key : (x : X) → key_y (f x) ≡ key x) where
-  own_along : (a : ℕ) (xs : List X) → own_of actor_y a (map f xs) ≡ map f (own_of actor a xs)
+  pub own_along : (a : ℕ) (xs : List X) → own_of actor_y a (map f xs) ≡ map f (own_of actor a xs)
   own_along a [] = refl
   own_along a (x ∷ xs) =
       ap (λ (n : ℕ). cond (n == a) (f x ∷ own_of actor_y a (map f xs)) (own_of actor_y a (map f xs))) (same_actor x)

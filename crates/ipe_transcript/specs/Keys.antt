@@ -1,7 +1,8 @@
 -- Where entries belong within a phase, and when they stand there. These words are of entries of any type, each of which
 -- has an actor and a key, or none: where the administrator is 0, worker K is K.
-use Rattle.std.specs.Prelude.{◌≡◌, ℕ, ◌<◌, ◌==◌, ◌⊎◌, List, [], ◌∷◌, Option, None}
+use Rattle.std.specs.Prelude.{◌≡◌, ℕ, ◌<◌, ◌==◌, ◌⊎◌, Bool, true, false, List, [], ◌∷◌, Option, Some, None}
 use Rattle.std.specs.List.{AllByRecursion, filter, filter_map}
+use Rattle.ipe_machine.specs.declared.event.Place.{Place}
 
 -- where an entry belongs within its phase: by epoch; in an epoch by its rank, and by a number within the rank
 pub record Key : Type 0 where
@@ -20,6 +21,16 @@ command_key epoch line = record { epoch = epoch; rank = 1; within = line }
 -- then the hooks with a claim, by its count
 abbrev pub claim_key : ℕ → ℕ → Key
 claim_key epoch count = record { epoch = epoch; rank = 2; within = count }
+
+-- a write that raised the epoch begins its own; every other keeps its line's place among the commands of its epoch
+abbrev pub write_key : ℕ → ℕ → Bool → Key
+write_key line epoch true = opening_key epoch
+write_key line epoch false = command_key epoch line
+
+-- the key of a claim's place; without a place there is none
+abbrev pub place_key : Option Place → Option Key
+place_key None = None
+place_key (Some place) = Some (claim_key place.epoch place.count)
 
 -- a key is before another: by epoch, then by rank, then within the rank
 abbrev pub IsBefore : Key → Key → Type 0

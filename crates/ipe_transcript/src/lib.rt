@@ -3,6 +3,7 @@
 
 mod entry;
 mod printing;
+pub mod transcript;
 
 pub use entry::Entry;
 pub use printing::print_entry;

@@ -9,8 +9,8 @@ use Rattle.ipe_machine.specs.Machine.{Machine, first_machine, ruling_at, next_pl
 use Rattle.ipe_gate_rule.specs.declared.event.Event.{Event}
 use Rattle.ipe_gate_rule.specs.declared.event.Event.TheVariants.{Switch, Claim}
 use Rattle.ipe_gate_rule.specs.History.{epoch_of, count_of}
-use Rattle.ipe_transcript.specs.Keys.{Key, Rises}
-use Rattle.ipe_weave.specs.Lines.{Access, Task, actor_of_task, LineReply, after_write, hook_reply, task_reply, after_task, after_line, after_lines, Acted, line_in, task_in, entries_of, place_key, write_key, reply_key, key_of, Write, Read, Hook}
+use Rattle.ipe_transcript.specs.Keys.{Key, Rises, place_key, write_key}
+use Rattle.ipe_weave.specs.Lines.{Access, Task, actor_of_task, LineReply, after_write, hook_reply, task_reply, after_task, after_line, after_lines, Acted, line_in, task_in, entries_of, reply_key, key_of, Write, Read, Hook}
 use Rattle.ipe_weave.specs.Acts.{Act}
 use Rattle.ipe_weave.specs.Standing.{has_act, is_active, AnsweredAt, AnsweredIdle, IsIdle, AnsweredBy, policies_after, CommandsRan, raised, BeginsWith, claim_by, claims_by, IsLike, Agree}
 use Rattle.ipe_weave.proofs.Founded.{Founded}

@@ -1,5 +1,5 @@
 -- What lines ask, and what the machine replies to one line after another, for any number of workers.
-use Rattle.std.specs.Prelude.{◌≡◌, ℕ, ◌-◌, ◌<◌, ◌==◌, Bool, true, false, not, ◌&&◌, cond, List, [], ◌∷◌, ◌++◌, Option, Some, None, is_some, Result, Ok, Err}
+use Rattle.std.specs.Prelude.{◌≡◌, ℕ, ◌-◌, ◌<◌, ◌==◌, Bool, not, ◌&&◌, cond, List, [], ◌∷◌, ◌++◌, Option, Some, None, is_some, Result, Ok, Err}
 use Rattle.std.specs.List.{AllZip, AllByRecursion}
 use Rattle.ipe_policy.specs.declared.request.Request.{Request}
 use Rattle.ipe_policy.specs.declared.request.Subject.{Subject}
@@ -11,13 +11,12 @@ use Rattle.ipe_machine.specs.declared.answer.Done.{Done}
 use Rattle.ipe_machine.specs.declared.answer.Refusal.{Refusal}
 use Rattle.ipe_machine.specs.declared.event.CoreRuling.{CoreRuling}
 use Rattle.ipe_machine.specs.declared.event.Event.TheVariants as event
-use Rattle.ipe_machine.specs.declared.event.Place.{Place}
 use Rattle.ipe_machine.specs.Policies.{Policies, active_entry}
 use Rattle.ipe_machine.specs.Answer.{Verdicts, answer, after}
 use Rattle.ipe_machine.specs.Machine.{Machine, ruling_for, ruling_unevaluated, after_claim, after_event, with_policies}
 use Rattle.ipe_records.specs.Records.{records_of, access_of}
 use Rattle.ipe_nodes.specs.Nodes.{node_read}
-use Rattle.ipe_transcript.specs.Keys.{Key, opening_key, command_key, claim_key, own_of, AreInPlace}
+use Rattle.ipe_transcript.specs.Keys.{Key, command_key, write_key, place_key, own_of, AreInPlace}
 
 -- what a hook is about
 pub record Access : Type 0 where
@@ -157,16 +156,6 @@ own_lines actor lines = own_of actor_of actor lines
 -- an actor's entries
 abbrev pub own_entries : ℕ → List Acted → List Acted
 own_entries actor entries = own_of actor_in actor entries
-
--- the key of a claim's place; without a place there is none
-abbrev pub place_key : Option Place → Option Key
-place_key None = None
-place_key (Some place) = Some (claim_key place.epoch place.count)
-
--- a write that raised the epoch begins its own; every other keeps its line's place among the commands of its epoch
-abbrev pub write_key : ℕ → ℕ → Bool → Key
-write_key number epoch true = opening_key epoch
-write_key number epoch false = command_key epoch number
 
 -- where the entry of the line of this number belongs, by its reply
 abbrev pub reply_key : ℕ → LineReply → Option Key
