@@ -36,11 +36,11 @@ use Rattle.ipe_machine.proofs.Runs.{after_all-append}
 use Rattle.ipe_machine.proofs.Entries.{entry_named_is, entry_there, no_entry, find-remove, find_more, place_is}
 
 -- an entry at this version or a higher one
-abbrev AtLeast : Loaded → Option Loaded → Type 0
+abbrev pub AtLeast : Loaded → Option Loaded → Type 0
 AtLeast entry found = (later : Loaded) × (found ≡ Some later) × (packed entry.version ≤ packed later.version)
 
 -- where a policy is active before, one is after, and its version is at least that
-abbrev Keeps : Policies → Policies → Type 0
+abbrev pub Keeps : Policies → Policies → Type 0
 Keeps before after = (entry : Loaded) → active_entry before ≡ Some entry → AtLeast entry (active_entry after)
 
 keeps_itself : (policies : Policies) → Keeps policies policies
@@ -61,7 +61,7 @@ by_answer policies act (Ok did) keeps = keeps did refl
 by_answer policies act (Err why) keeps = keeps_itself policies
 
 -- the policies that a list of entries makes
-abbrev with_loaded : Policies → List Loaded → Policies
+abbrev pub with_loaded : Policies → List Loaded → Policies
 with_loaded policies loaded = record policies { loaded = loaded }
 
 -- a change of the list alone, that keeps the entry of the active name
@@ -80,7 +80,7 @@ load_keeps policies text =
     (λ name named entry found. (entry, find_more (is_named name) policies.loaded (entry_of policies.next text ∷ []) entry found, omega arith))
 
 -- two tests of a name
-named_same : (name : List ℕ) (entry : Loaded) → is_named name entry ≡ true → entry.name ≡ name
+pub named_same : (name : List ℕ) (entry : Loaded) → is_named name entry ≡ true → entry.name ≡ name
 named_same name entry named = same_text entry.name name (sym named)
 
 pub named_self : (name : List ℕ) → is_text name name ≡ true
@@ -165,7 +165,7 @@ activation_keeps verdicts policies name wanted did is entry standing =
           by_done policies (Activate name wanted) did (λ e is_e. (found.0, found.1, subst (λ (o : Option Loaded). packed (entry_version o) ≤ packed found.0.version) is_e higher)) entry standing
     ]
 
-act_keeps : (verdicts : Verdicts) (policies : Policies) (act : Act) → Keeps policies (after_answer policies act (act_answer verdicts policies act))
+pub act_keeps : (verdicts : Verdicts) (policies : Policies) (act : Act) → Keeps policies (after_answer policies act (act_answer verdicts policies act))
 act_keeps verdicts policies (Load text) = by_answer policies (Load text) (act_answer verdicts policies (Load text)) (λ did is. by_done policies (Load text) did (load_keeps policies text))
 act_keeps verdicts policies (Update name text) = by_answer policies (Update name text) (act_answer verdicts policies (Update name text)) (λ did is.
     let found = update_ok verdicts policies name text did is in

@@ -2,3 +2,4 @@ pub mod Runs
 pub mod Entries
 pub mod Kept
 pub mod Answers
+pub mod Epochs

@@ -27,12 +27,16 @@ recorded_alike machine h access None entry like = refl
 recorded_alike machine h access (Some op) None like = refl
 recorded_alike machine h access (Some op) (Some entry) like = rw (like.enforce, like.success) refl
 
-run_answers : (verdicts : Verdicts) (in_epoch : ℕ → Option Loaded) (machine : Machine) (h : List Event) (op : Op) (access : Access) → IsLike machine h → in_epoch (epoch_of h) ≡ active_entry machine.policies
-    → claimed_by h (in_epoch (epoch_of h)) op access ≡ hook_reply machine (Some op) access
-run_answers verdicts in_epoch machine h op access like shows =
-    ap (λ (entry : Option Loaded). claimed_by h entry op access) shows
-    ∙ ap (λ (r : CoreRuling). ruled r (access_with (machine_at h).policies access.request access.subject access.object access.context (evaluated_op access.request) (active_entry machine.policies))) (ruled_alike machine h (active_entry machine.policies) op access.context like)
+-- a claim by the active entry is answered as the machine answers
+pub entry_answers : (machine : Machine) (h : List Event) (op : Op) (access : Access) → IsLike machine h → claimed_by h (active_entry machine.policies) op access ≡ hook_reply machine (Some op) access
+entry_answers machine h op access like =
+    ap (λ (r : CoreRuling). ruled r (access_with (machine_at h).policies access.request access.subject access.object access.context (evaluated_op access.request) (active_entry machine.policies))) (ruled_alike machine h (active_entry machine.policies) op access.context like)
     ∙ ap (λ (r : Option (List ℕ)). ruled (ruling_at machine (active_entry machine.policies) op access.context) r) (recorded_alike machine h access (evaluated_op access.request) (active_entry machine.policies) like)
+
+run_answers : (in_epoch : ℕ → Option Loaded) (machine : Machine) (h : List Event) (op : Op) (access : Access) → IsLike machine h → in_epoch (epoch_of h) ≡ active_entry machine.policies
+    → claimed_by h (in_epoch (epoch_of h)) op access ≡ hook_reply machine (Some op) access
+run_answers in_epoch machine h op access like shows =
+    ap (λ (entry : Option Loaded). claimed_by h entry op access) shows ∙ entry_answers machine h op access like
 
 pub run_laws : (verdicts : Verdicts) (in_epoch : ℕ → Option Loaded) → in_epoch 0 ≡ None → IsBasis (run_basis verdicts in_epoch)
 run_laws verdicts in_epoch none = record {
@@ -42,7 +46,7 @@ run_laws verdicts in_epoch none = record {
   at_look = λ s h entry shows. shows;
   at_store = λ s i w h entry allowed shows. absurd allowed;
   at_switch = λ s e u h policies begins. begins;
-  answers = run_answers verdicts in_epoch;
+  answers = run_answers in_epoch;
 }
 
 -- the same with the law of the machine's commands

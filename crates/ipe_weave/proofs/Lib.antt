@@ -14,3 +14,4 @@ pub mod Bases
 pub mod FileRun
 pub mod InEpoch
 pub mod Printing
+pub mod Gates

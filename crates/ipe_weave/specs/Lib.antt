@@ -5,3 +5,4 @@ pub mod Standing
 pub mod Phases
 pub mod Seats
 pub mod Run
+pub mod Gate

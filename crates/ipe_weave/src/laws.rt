@@ -1,23 +1,53 @@
-ghost use Rattle.ipe_machine.specs.Epochs.{CommandsStayOrBegin};
+ghost use Rattle.ipe_gate_rule.specs.Legal.{Legal};
 ghost use Rattle.ipe_machine.specs.Machine.{first_machine};
+ghost use Rattle.ipe_machine.specs.Policies.{first_policies};
+ghost use Rattle.ipe_weave.specs.Gate.{gate_basis};
 ghost use Rattle.ipe_weave.specs.Lines.{phases_entries};
-ghost use Rattle.ipe_weave.specs.Phases.{IsAlong, IsPrinted};
+ghost use Rattle.ipe_weave.specs.Phases.{IsAlong, IsOrderOf, IsPrinted, PhaseRan, PhasesRan};
 ghost use Rattle.ipe_weave.specs.Run.{IsNumbered};
+ghost use Rattle.ipe_weave.specs.Seats.{Closes, PhaseMet, PhasesDone};
 ghost use Rattle.std.specs.List.{AllZip};
+ghost use Rattle.std.specs.Prelude.{[]};
 
 /// Where the machine replies to the lines of each phase in the order of the file, the entries of each phase have an
 /// order in which they may be printed: each one's own in that one's order, and all in place. This call and the others
 /// here do nothing: their contracts are laws.
 pub fn file_order_can_be_printed()
-    ensures { (verdicts : _) (workers : _) (script : _) → CommandsStayOrBegin → IsNumbered workers script →
+    ensures { (verdicts : _) (workers : _) (script : _) → IsNumbered workers script →
         (printed : _) × AllZip IsPrinted (phases_entries verdicts (first_machine workers) script) printed }
 {}
 
 /// In whatever such order they are printed, it is a weave of the phases and in place, and the machine replies along it
 /// just what is printed: that it replied in another order changed nothing.
 pub fn file_order_is_printed_along_an_order()
-    ensures { (verdicts : _) (workers : _) (script : _) (printed : _) → CommandsStayOrBegin →
-        IsNumbered workers script →
+    ensures { (verdicts : _) (workers : _) (script : _) (printed : _) → IsNumbered workers script →
         AllZip IsPrinted (phases_entries verdicts (first_machine workers) script) printed →
         IsAlong verdicts (first_machine workers) script printed }
+{}
+
+/// Where the phases ran on a gate, and each phase's entries are printed in such an order, the gate's one history stands
+/// for the order in which they are printed, and the machine replies along it just what is printed.
+pub fn gate_history_stands_for_the_printed_order()
+    ensures { (verdicts : _) (workers : _) (whole : _) (script : _) (phases : _) (printed : _) → Legal whole →
+        PhasesRan (gate_basis verdicts) workers first_policies [] whole script phases →
+        AllZip IsPrinted phases printed →
+        IsOrderOf (gate_basis verdicts) (first_machine workers) whole script printed }
+{}
+
+/// After such a run each phase's entries have an order in which they may be printed.
+pub fn gate_run_can_be_printed()
+    ensures { (verdicts : _) (workers : _) (whole : _) (script : _) (phases : _) → Legal whole →
+        PhasesRan (gate_basis verdicts) workers first_policies [] whole script phases →
+        (printed : _) × AllZip IsPrinted phases printed }
+{}
+
+/// What each seat had seen before a phase and has seen when all have met makes it a phase in the gate's one history;
+/// and phases, one after another up to a closed gate, are a run.
+pub fn phases_meet()
+    ensures phase { (verdicts : _) (workers : _) (policies : _) (before : _) (after : _) (lines : _) (entries : _) →
+        PhaseMet (gate_basis verdicts) workers policies before after lines entries →
+        PhaseRan (gate_basis verdicts) workers policies before after lines entries }
+    ensures run { (verdicts : _) (workers : _) (policies : _) (before : _) (now : _) (whole : _) (script : _)
+        (phases : _) → PhasesDone (gate_basis verdicts) workers policies before now script phases →
+        Closes now whole → PhasesRan (gate_basis verdicts) workers policies before whole script phases }
 {}
