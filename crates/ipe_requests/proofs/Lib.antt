@@ -1,0 +1,11 @@
+mod Apart
+mod Behind
+mod Declares
+mod Files
+mod Found
+mod Laws
+mod Pieces
+mod Results
+mod SoFar
+mod Spelled
+mod Tables

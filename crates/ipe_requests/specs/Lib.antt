@@ -1,0 +1,9 @@
+pub mod Words
+pub mod Known
+pub mod Table
+pub mod TableWords
+pub mod Reading
+pub mod Requests
+pub mod Spelling
+pub mod Answers
+pub mod Law
