@@ -38,6 +38,7 @@ fn record<R: WordReader>(reader: &mut R, at: u32, words: u32) -> ArrayVec<u64, 1
     requires within { at + words ≤ length (R.words reader.old) }
     requires small { at + words ≤ 4096 }
     ensures stays { R.words reader.new ≡ R.words reader.old }
+    ensures kept { R.kept reader.new ≡ R.kept reader.old }
     ensures items { result.items ≡ take words (drop at (R.words reader.old)) }
 {
     let mut record = ArrayVec::new();
@@ -58,6 +59,7 @@ fn matching_record<R: WordReader>(
     requires { (number : ℕ) × (rule : RuleParts) × IsRecordAt (R.words reader.old) at number rule ×
         (head ≡ told_of_rule number rule) }
     ensures stays { R.words reader.new ≡ R.words reader.old }
+    ensures kept { R.kept reader.new ≡ R.kept reader.old }
     ensures found { (number : ℕ) (rule : RuleParts) → IsRecordAt (R.words reader.old) at number rule →
         head ≡ told_of_rule number rule → MatchOption result (matches op context.now (number, rule) ≡ false)
         (λ words. (matches op context.now (number, rule) ≡ true) × (words.items ≡ rule_record number rule)) }
@@ -76,6 +78,7 @@ fn matching_record<R: WordReader>(
 fn first_match<R: WordReader>(reader: &mut R, op: Op, context: &Context) -> Option<Matched>
     requires { (parts : ImageParts) × BeginsWithImage (R.words reader.old) parts }
     ensures stays { R.words reader.new ≡ R.words reader.old }
+    ensures kept { R.kept reader.new ≡ R.kept reader.old }
     ensures found { (parts : ImageParts) → BeginsWithImage (R.words reader.old) parts →
         IsFirstMatch parts op context.now result }
 {
@@ -99,6 +102,7 @@ fn first_match<R: WordReader>(reader: &mut R, op: Op, context: &Context) -> Opti
 fn default_of<R: WordReader>(reader: &mut R, op: Op) -> Found
     requires { (parts : ImageParts) × BeginsWithImage (R.words reader.old) parts }
     ensures stays { R.words reader.new ≡ R.words reader.old }
+    ensures kept { R.kept reader.new ≡ R.kept reader.old }
     ensures found { (parts : ImageParts) → BeginsWithImage (R.words reader.old) parts →
         default_of parts op ≡ Some result }
 {
@@ -123,6 +127,7 @@ fn default_of<R: WordReader>(reader: &mut R, op: Op) -> Found
 pub fn decide_words<R: WordReader>(reader: &mut R, op: Op, context: &Context) -> Hit
     requires { IsTrue (is_some (image_in (R.words reader.old))) }
     ensures stays { R.words reader.new ≡ R.words reader.old }
+    ensures kept { R.kept reader.new ≡ R.kept reader.old }
     ensures answer { (parts : ImageParts) → image_in (R.words reader.old) ≡ Some parts →
         IsAnswer parts op context.now result }
     ensures hit { IsHit op result }

@@ -8,11 +8,17 @@ pub trait WordReader {
     /// The words: 4,096 of them, or none.
     ghost words: { Self → List ℕ };
 
+    /// What else the reader is, which reading leaves as it is.
+    ghost Kept: { Type 0 } = { Unit {0} };
+
+    ghost kept: { Self → Kept };
+
     /// The word at `i`, from 0.
     fn word(&mut self, i: u32) -> u64
         requires { i < length (words self.old) }
         ensures word { result ≡ slice_index (words self.old) i }
         ensures stays { words self.new ≡ words self.old }
+        ensures kept { kept self.new ≡ kept self.old }
         ensures whole { length (words self.old) ≡ 4096 };
 }
 
@@ -44,6 +50,8 @@ impl<'a> SliceReader<'a> {
 
 impl<'a> WordReader for SliceReader<'a> {
     ghost words = { λ s. filled 4096 s };
+
+    ghost kept = { λ _. tt };
 
     fn word(&mut self, i: u32) -> u64 {
         self.words.get(i as usize).copied().unwrap_or(0)

@@ -47,6 +47,7 @@ turn words before now parts op context place number word head same stays word_is
 pub loop-index-init : goal.loop-index-init
 loop-index-init g c = (
   c.word-count.ensures.stays,
+  c.word-count.ensures.kept,
   λ parts h.
       at-first _ parts c.args.op c.args.context.now h.behind (complete-facts parts h.complete) (at _ parts h),
 )
@@ -56,7 +57,7 @@ word-requires g c =
     let words = g.R.WordReader.words c.args.reader.now in
     let r = next-rule words c.requires.0 c.args.op c.args.context.now c.loop-index.at c.loop-index._index
     c.word-count.result c.requires.1
-    c.word-count.ensures.word c.loop-index-test.true (c.loop-index.invariant.1 c.requires.0 c.requires.1) in
+    c.word-count.ensures.word c.loop-index-test.true (c.loop-index.invariant.2 c.requires.0 c.requires.1) in
     let same : length (g.R.WordReader.words c.loop-index.reader) ≡ length words = ap length c.loop-index.invariant.0 in
     let within = r.stands.within in
     omega arith
@@ -66,7 +67,7 @@ matching_record-requires g c =
     let words = g.R.WordReader.words c.args.reader.now in
     let r = next-rule words c.requires.0 c.args.op c.args.context.now c.loop-index.at c.loop-index._index
     c.word-count.result c.requires.1
-    c.word-count.ensures.word c.loop-index-test.true (c.loop-index.invariant.1 c.requires.0 c.requires.1) in
+    c.word-count.ensures.word c.loop-index-test.true (c.loop-index.invariant.2 c.requires.0 c.requires.1) in
     let t = turn words _ _ _ _ _ _ _ _ c.read-head.result c.loop-index.invariant.0 c.word.ensures.stays
     c.word.ensures.word c.read-head.ensures r in
     (c.loop-index._index + 1, t.found.rule, t.stands, t.head_is)
@@ -75,7 +76,7 @@ pub returns-in-Some-clause-found : goal.returns-in-Some-clause-found
 returns-in-Some-clause-found g c parts h =
     let words = g.R.WordReader.words c.args.reader.now in
     let r = next-rule words parts c.args.op c.args.context.now c.loop-index.at c.loop-index._index c.word-count.result h
-    c.word-count.ensures.word c.loop-index-test.true (c.loop-index.invariant.1 parts h) in
+    c.word-count.ensures.word c.loop-index-test.true (c.loop-index.invariant.2 parts h) in
     let t = turn words _ _ _ _ _ _ _ _ c.read-head.result c.loop-index.invariant.0 c.word.ensures.stays
     c.word.ensures.word c.read-head.ensures r in
     let found = c.in-Some.ensures.found (c.loop-index._index + 1) t.found.rule t.stands t.head_is in
@@ -93,7 +94,7 @@ overflow_add-at g c =
     let words = g.R.WordReader.words c.args.reader.now in
     let r = next-rule words c.requires.0 c.args.op c.args.context.now c.loop-index.at c.loop-index._index
     c.word-count.result c.requires.1
-    c.word-count.ensures.word c.loop-index-test.true (c.loop-index.invariant.1 c.requires.0 c.requires.1) in
+    c.word-count.ensures.word c.loop-index-test.true (c.loop-index.invariant.2 c.requires.0 c.requires.1) in
     let t = turn words _ _ _ _ _ _ _ _ c.read-head.result c.loop-index.invariant.0 c.word.ensures.stays
     c.word.ensures.word c.read-head.ensures r in
     let size : c.read-head.result.words ≡ rule_words t.found.rule = ap (λ (head : RuleHead). head.words) t.head_is in
@@ -103,11 +104,12 @@ overflow_add-at g c =
 pub loop-index-preserved : goal.loop-index-preserved
 loop-index-preserved g c = (
   c.matching_record.ensures.stays ∙ c.word.ensures.stays ∙ c.loop-index.invariant.0,
+  c.matching_record.ensures.kept ∙ c.word.ensures.kept ∙ c.loop-index.invariant.1,
   λ parts h.
       let words = g.R.WordReader.words c.args.reader.now in
       let r = next-rule words parts c.args.op c.args.context.now c.loop-index.at c.loop-index._index
       c.word-count.result h
-      c.word-count.ensures.word c.loop-index-test.true (c.loop-index.invariant.1 parts h) in
+      c.word-count.ensures.word c.loop-index-test.true (c.loop-index.invariant.2 parts h) in
       let t = turn words _ _ _ _ _ _ _ _ c.read-head.result c.loop-index.invariant.0 c.word.ensures.stays
       c.word.ensures.word c.read-head.ensures r in
       let size : c.read-head.result.words ≡ rule_words t.found.rule = ap (λ (head : RuleHead). head.words) t.head_is in
@@ -121,4 +123,4 @@ returns-clause-found g c parts h =
     let words = g.R.WordReader.words c.args.reader.now in
     let rules : c.word-count.result ≡ length parts.rules = c.word-count.ensures.word ∙ (at words parts h).count in
     none-here words parts c.args.op c.args.context.now c.loop-index.at (c.loop-index._index + 1) (omega arith)
-    (c.loop-index.invariant.1 parts h)
+    (c.loop-index.invariant.2 parts h)

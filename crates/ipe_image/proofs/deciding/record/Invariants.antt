@@ -6,3 +6,4 @@ abbrev pub invariant-loop-i : goal.invariant-loop-i
 invariant-loop-i g l =
     (g.R.WordReader.words l.reader ≡ g.R.WordReader.words l.initial.reader)
     × (l.record.items ≡ take l.i (drop l.at (g.R.WordReader.words l.initial.reader)))
+    × (g.R.WordReader.kept l.reader ≡ g.R.WordReader.kept l.initial.reader)
