@@ -43,6 +43,7 @@ pub record IsReturn (p q : Pass) : Type 0 where
   pub step : PassSteps (Return p.number) p q before
   pub held : slot_held q ≡ 0
   pub calls : calls_made q ≡ calls_made p
+  pub places : places_of p.number (seen q) ≡ places_of p.number (seen p)
 
 -- a word of the region of the slot that is held was read, as it stood there at the claim
 pub record IsRead (p q : Pass) (i word : ℕ) : Type 0 where

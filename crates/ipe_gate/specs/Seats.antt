@@ -39,6 +39,10 @@ region_of (suc k) h = region (suc k) h
 abbrev pub words_held : Pass → List ℕ
 words_held p = region_of (slot_held p) (seen p)
 
+-- which pass of which gate it is, and what it has seen
+abbrev pub who_reads : Pass → TableId × ℕ × List Event
+who_reads p = (gate_of p, p.number, seen p)
+
 -- what the administrator has seen
 abbrev pub admin_seen : GateAdmin → List Event
 admin_seen a = a.seat.me.0.seen

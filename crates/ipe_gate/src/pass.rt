@@ -104,9 +104,16 @@ impl Pass {
 }
 
 impl WordReader for Pass {
-    ghost use Rattle.ipe_gate.specs.Seats.{words_held};
+    ghost use Rattle.std.specs.Prelude.{List, ℕ};
+    ghost use Rattle.atomic_table.specs.Seated.{TableId};
+    ghost use Rattle.ipe_gate_rule.specs.declared.event.Event.{Event};
+    ghost use Rattle.ipe_gate.specs.Seats.{who_reads, words_held};
 
     ghost words = { words_held };
+
+    ghost Kept = { TableId × ℕ × List Event };
+
+    ghost kept = { who_reads };
 
     fn word(&mut self, i: u32) -> u64 {
         Pass::word(self, i)

@@ -115,13 +115,15 @@ pub record ReturnTold (p : ℕ) (m m' : M) : Type 0 where
   pub calls : claims_by p m'.0.seen ≡ claims_by p m.0.seen
   pub held : held_by p m'.0.seen ≡ 0
   pub own : own_events p m'.0.seen ≡ Return p ∷ own_events p m.0.seen
+  pub places : places_of p m'.0.seen ≡ places_of p m.0.seen
 
 pub return_told : (m m' : M) (n p : ℕ) → m.0.role ≡ OfPass p → Returns (step 0 0 0 0 none) m n m' → ReturnTold p m m'
 return_told m m' n p is t =
     let before = t.1.0 in
     let a : Adds (Return p) m.0 m'.0 before = subst (λ z. Adds (Return (number_of z)) m.0 m'.0 before) is t.1.1 in
     let k = return_knows p m.0 m'.0 before is a in
-    record { before = before; carried = t.0; adds = a; role = a.role ∙ is; calls = k.0; held = k.1; own = pass_owns (Return p) p m.0 m'.0 before is (eqb-same p) a }
+    let owns : own_events p before ≡ own_events p m.0.seen = subst (λ z. filter (is_own z) before ≡ filter (is_own z) m.0.seen) is a.owns in
+    record { before = before; carried = t.0; adds = a; role = a.role ∙ is; calls = k.0; held = k.1; own = pass_owns (Return p) p m.0 m'.0 before is (eqb-same p) a; places = ap (places_of p) a.seen ∙ knows_places p before m.0.seen a.later owns }
 
 pub record SwitchTold (r s : ℕ) (x y : Bool) (m m' : M) (n : ℕ) : Type 0 where
   pub before : List Event

@@ -26,4 +26,5 @@ returns c =
       step = record { gate = f.ensures.0; number = refl; later = a.later; legal = a.legal; seen_is = a.seen; mine_is = t.own };
       held = t.held;
       calls = t.calls;
+      places = t.places;
     }

@@ -17,3 +17,6 @@ returns-clause-word c =
 
 pub returns-clause-whole : goal.returns-clause-whole
 returns-clause-whole c = let p = c.args.self.now in (word_known (slot_held p) c.args.i (seen p) c.requires).whole
+
+pub returns-clause-kept : goal.returns-clause-kept
+returns-clause-kept c = let r = c.word.ensures in (λ j. (r.same.gate j, r.same.number j, r.seen_is j))

@@ -1,0 +1,5 @@
+use Rattle.ipe_hooks.proofs.Machines.{as_the_machine}
+use Rattle.ipe_hooks.proofs.law.rules_as_the_machine.Goals as goal
+
+pub returns : goal.returns
+returns c = as_the_machine

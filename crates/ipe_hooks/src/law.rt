@@ -1,0 +1,7 @@
+ghost use Rattle.ipe_hooks.specs.Law.{RulesAsTheMachine};
+
+/// A hook's ruling is that of the pure machine with the gate's state at the hook's own claim. The call does nothing: its
+/// contract is the law.
+pub fn rules_as_the_machine()
+    ensures { RulesAsTheMachine }
+{}
