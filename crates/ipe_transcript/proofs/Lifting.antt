@@ -2,7 +2,6 @@
 use Rattle.std.proofs.Common.{◌≡◌, ℕ, ◌==◌, inl, inr, Bool, true, false, cond, List, [], ◌∷◌, map, Option, None, refl, sym, ap, subst, ◌∙◌}
 use Rattle.std.proofs.lemmas.Bool.{eqb-true, eqb-false, eq-eqb, ne_eqb, cases_Bool}
 use Rattle.ipe_transcript.specs.Keys.{Key, own_of}
-use Rattle.ipe_transcript.proofs.Along.{own_along}
 use Rattle.ipe_transcript.proofs.Once.{own-first, own-skip}
 
 -- an actor's first own entry, taken out of a list
@@ -37,7 +36,15 @@ module _ {X : Type 0} (actor : X → ℕ) where
 
 module _ {X Y : Type 0} (actor : X → ℕ) (actor_y : Y → ℕ) (f : X → Y) (same_actor : (x : X) → actor_y (f x) ≡ actor x) where
   pub own_map : (a : ℕ) (xs : List X) → own_of actor_y a (map f xs) ≡ map f (own_of actor a xs)
-  own_map a xs = own_along actor (no_key actor) actor_y (no_key actor_y) f same_actor (λ (x : X). refl) a xs
+  own_map a [] = refl
+  own_map a (x ∷ xs) =
+      ap (λ (n : ℕ). cond (n == a) (f x ∷ own_of actor_y a (map f xs)) (own_of actor_y a (map f xs))) (same_actor x)
+      ∙ ap (λ (ys : List Y). cond (actor x == a) (f x ∷ ys) ys) (own_map a xs)
+      ∙ by (actor x == a)
+    where
+      by : (b : Bool) → cond b (f x ∷ map f (own_of actor a xs)) (map f (own_of actor a xs)) ≡ map f (cond b (x ∷ own_of actor a xs) (own_of actor a xs))
+      by true = refl
+      by false = refl
 
   abbrev pub Lifted : List X → List Y → Type 0
   Lifted xs zs = (lifted : List X) × (map f lifted ≡ zs) × ((a : ℕ) → own_of actor a lifted ≡ own_of actor a xs)

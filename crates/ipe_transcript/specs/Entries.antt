@@ -1,6 +1,9 @@
 -- The entries of a transcript: whose they are, and where they belong.
-use Rattle.std.specs.Prelude.{ℕ, ◌==◌, List, Option, Some}
+use Rattle.std.specs.Prelude.{ℕ, ℤ, pos, neg_ℤ, ◌==◌, List, Option, Some, Result, Ok, Err}
 use Rattle.std.specs.List.{filter}
+use Rattle.ipe_words.specs.Number.{errno_number}
+use Rattle.ipe_machine.specs.declared.answer.Refusal.{Refusal}
+use Rattle.ipe_machine.specs.Refusals.{errno_of}
 use Rattle.ipe_transcript.specs.declared.transcript.Entry.{Entry}
 use Rattle.ipe_transcript.specs.declared.transcript.Entry.TheVariants as entry
 use Rattle.ipe_transcript.specs.Keys.{Key, command_key, write_key, place_key, ArePrinted}
@@ -36,3 +39,8 @@ of_phase phase entries = filter (λ entry. phase_of entry == phase) entries
 -- entries in an order in which they may be printed: each one's own in that one's order, and all in place
 abbrev pub IsPrinted : List Entry → List Entry → Type 0
 IsPrinted entries printed = ArePrinted actor_of key_of entries printed
+
+-- the code of an answer: 0, or a minus sign and the number of the error
+abbrev pub code_of : {A : Type 0} → Result A Refusal → ℤ
+code_of (Ok done) = pos 0
+code_of (Err refusal) = neg_ℤ (pos (errno_number (errno_of refusal)))

@@ -15,3 +15,4 @@ pub mod FileRun
 pub mod InEpoch
 pub mod Printing
 pub mod Gates
+pub mod Telling

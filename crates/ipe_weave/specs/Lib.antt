@@ -6,3 +6,4 @@ pub mod Phases
 pub mod Seats
 pub mod Run
 pub mod Gate
+pub mod Told

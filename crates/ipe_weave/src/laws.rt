@@ -2,12 +2,14 @@ ghost use Rattle.ipe_gate_rule.specs.Legal.{Legal};
 ghost use Rattle.ipe_machine.specs.Machine.{first_machine};
 ghost use Rattle.ipe_machine.specs.Policies.{first_policies};
 ghost use Rattle.ipe_weave.specs.Gate.{gate_basis};
-ghost use Rattle.ipe_weave.specs.Lines.{phases_entries};
+ghost use Rattle.ipe_transcript.specs.Entries as transcript;
+ghost use Rattle.ipe_weave.specs.Lines.{entries_of, phases_entries};
 ghost use Rattle.ipe_weave.specs.Phases.{IsAlong, IsOrderOf, IsPrinted, PhaseRan, PhasesRan};
 ghost use Rattle.ipe_weave.specs.Run.{IsNumbered};
 ghost use Rattle.ipe_weave.specs.Seats.{Closes, PhaseMet, PhasesDone};
-ghost use Rattle.std.specs.List.{AllZip};
-ghost use Rattle.std.specs.Prelude.{[]};
+ghost use Rattle.ipe_weave.specs.Told.{IsFit, entry_of};
+ghost use Rattle.std.specs.List.{AllByRecursion, AllZip};
+ghost use Rattle.std.specs.Prelude.{[], map};
 
 /// Where the machine replies to the lines of each phase in the order of the file, the entries of each phase have an
 /// order in which they may be printed: each one's own in that one's order, and all in place. This call and the others
@@ -50,4 +52,13 @@ pub fn phases_meet()
     ensures run { (verdicts : _) (workers : _) (policies : _) (before : _) (now : _) (whole : _) (script : _)
         (phases : _) → PhasesDone (gate_basis verdicts) workers policies before now script phases →
         Closes now whole → PhasesRan (gate_basis verdicts) workers policies before whole script phases }
+{}
+
+/// The machine's replies are of the kinds of their lines; and where they are, what is told of lines that are printed in
+/// such an order is so too, whatever the files behind hooks came to.
+pub fn told_entries_are_printed()
+    ensures fits { (verdicts : _) (machine : _) (lines : _) → AllByRecursion IsFit (entries_of verdicts machine lines) }
+    ensures printed { (contents : _) (phase : _) (entries : _) (printed : _) → AllByRecursion IsFit entries →
+        AllByRecursion IsFit printed → IsPrinted entries printed →
+        transcript.IsPrinted (map (entry_of contents phase) entries) (map (entry_of contents phase) printed) }
 {}

@@ -13,4 +13,5 @@ mod laws;
 pub use laws::{
     file_order_can_be_printed, file_order_is_printed_along_an_order,
     gate_history_stands_for_the_printed_order, gate_run_can_be_printed, phases_meet,
+    told_entries_are_printed,
 };

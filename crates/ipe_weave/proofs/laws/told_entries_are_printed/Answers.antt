@@ -1,0 +1,8 @@
+use Rattle.ipe_weave.proofs.Telling.{entries_fit, told_are_printed}
+use Rattle.ipe_weave.proofs.laws.told_entries_are_printed.Goals as goal
+
+pub returns-clause-fits : goal.returns-clause-fits
+returns-clause-fits c = entries_fit
+
+pub returns-clause-printed : goal.returns-clause-printed
+returns-clause-printed c = λ contents phase entries printed fit fits is. told_are_printed contents phase entries printed fit fits is
