@@ -11,13 +11,18 @@ ghost use Rattle.ipe_weave.specs.Told.{IsFit, entry_of};
 ghost use Rattle.std.specs.List.{AllByRecursion, AllZip};
 ghost use Rattle.std.specs.Prelude.{[], map};
 
+use ipe_image::images_are_read_as_themselves;
+use ipe_machine::commands_stay_or_begin;
+
 /// Where the machine replies to the lines of each phase in the order of the file, the entries of each phase have an
 /// order in which they may be printed: each one's own in that one's order, and all in place. This call and the others
 /// here do nothing: their contracts are laws.
 pub fn file_order_can_be_printed()
     ensures { (verdicts : _) (workers : _) (script : _) → IsNumbered workers script →
         (printed : _) × AllZip IsPrinted (phases_entries verdicts (first_machine workers) script) printed }
-{}
+{
+    commands_stay_or_begin();
+}
 
 /// In whatever such order they are printed, it is a weave of the phases and in place, and the machine replies along it
 /// just what is printed: that it replied in another order changed nothing.
@@ -25,7 +30,9 @@ pub fn file_order_is_printed_along_an_order()
     ensures { (verdicts : _) (workers : _) (script : _) (printed : _) → IsNumbered workers script →
         AllZip IsPrinted (phases_entries verdicts (first_machine workers) script) printed →
         IsAlong verdicts (first_machine workers) script printed }
-{}
+{
+    commands_stay_or_begin();
+}
 
 /// Where the phases ran on a gate, and each phase's entries are printed in such an order, the gate's one history stands
 /// for the order in which they are printed, and the machine replies along it just what is printed.
@@ -34,14 +41,20 @@ pub fn gate_history_stands_for_the_printed_order()
         PhasesRan (gate_basis verdicts) workers first_policies [] whole script phases →
         AllZip IsPrinted phases printed →
         IsOrderOf (gate_basis verdicts) (first_machine workers) whole script printed }
-{}
+{
+    commands_stay_or_begin();
+    images_are_read_as_themselves();
+}
 
 /// After such a run each phase's entries have an order in which they may be printed.
 pub fn gate_run_can_be_printed()
     ensures { (verdicts : _) (workers : _) (whole : _) (script : _) (phases : _) → Legal whole →
         PhasesRan (gate_basis verdicts) workers first_policies [] whole script phases →
         (printed : _) × AllZip IsPrinted phases printed }
-{}
+{
+    commands_stay_or_begin();
+    images_are_read_as_themselves();
+}
 
 /// What each seat had seen before a phase and has seen when all have met makes it a phase in the gate's one history;
 /// and phases, one after another up to a closed gate, are a run.
@@ -52,7 +65,10 @@ pub fn phases_meet()
     ensures run { (verdicts : _) (workers : _) (policies : _) (before : _) (now : _) (whole : _) (script : _)
         (phases : _) → PhasesDone (gate_basis verdicts) workers policies before now script phases →
         Closes now whole → PhasesRan (gate_basis verdicts) workers policies before whole script phases }
-{}
+{
+    commands_stay_or_begin();
+    images_are_read_as_themselves();
+}
 
 /// The machine's replies are of the kinds of their lines; and where they are, what is told of lines that are printed in
 /// such an order is so too, whatever the files behind hooks came to.

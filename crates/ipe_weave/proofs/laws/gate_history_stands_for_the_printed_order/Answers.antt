@@ -1,9 +1,7 @@
-use Rattle.ipe_image.proofs.Policies.{decide-alike}
-use Rattle.ipe_machine.proofs.Epochs.{commands_near}
 use Rattle.ipe_weave.proofs.Gates.{founded_gate, legal_may_be}
 use Rattle.ipe_weave.proofs.Whole.{history_orders}
 use Rattle.ipe_weave.proofs.laws.gate_history_stands_for_the_printed_order.Goals as goal
 
 pub returns : goal.returns
 returns c = λ verdicts workers whole script phases printed legal ran is.
-    history_orders (founded_gate commands_near decide-alike verdicts) workers whole script phases printed (legal_may_be verdicts whole legal) ran is
+    history_orders (founded_gate c.commands_stay_or_begin.ensures c.images_are_read_as_themselves.ensures.decides verdicts) workers whole script phases printed (legal_may_be verdicts whole legal) ran is

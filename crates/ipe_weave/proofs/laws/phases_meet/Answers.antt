@@ -1,5 +1,3 @@
-use Rattle.ipe_image.proofs.Policies.{decide-alike}
-use Rattle.ipe_machine.proofs.Epochs.{commands_near}
 use Rattle.ipe_weave.proofs.Gates.{founded_gate}
 use Rattle.ipe_weave.proofs.Quiet.{phase_met}
 use Rattle.ipe_weave.proofs.Rounds.{phases_close}
@@ -7,8 +5,8 @@ use Rattle.ipe_weave.proofs.laws.phases_meet.Goals as goal
 
 pub returns-clause-phase : goal.returns-clause-phase
 returns-clause-phase c = λ verdicts workers policies before after lines entries met.
-    phase_met (founded_gate commands_near decide-alike verdicts) workers policies before after lines entries met
+    phase_met (founded_gate c.commands_stay_or_begin.ensures c.images_are_read_as_themselves.ensures.decides verdicts) workers policies before after lines entries met
 
 pub returns-clause-run : goal.returns-clause-run
 returns-clause-run c = λ verdicts workers policies before now whole script phases done closes.
-    phases_close (founded_gate commands_near decide-alike verdicts) workers policies before now whole script phases done closes
+    phases_close (founded_gate c.commands_stay_or_begin.ensures c.images_are_read_as_themselves.ensures.decides verdicts) workers policies before now whole script phases done closes
