@@ -4,9 +4,8 @@ ghost use Rattle.ipe_machine.specs.Policies.{first_policies};
 ghost use Rattle.ipe_weave.specs.Gate.{gate_basis};
 ghost use Rattle.ipe_transcript.specs.Entries as transcript;
 ghost use Rattle.ipe_weave.specs.Lines.{entries_of, phases_entries};
-ghost use Rattle.ipe_weave.specs.Phases.{IsAlong, IsOrderOf, IsPrinted, PhaseRan, PhasesRan};
+ghost use Rattle.ipe_weave.specs.Phases.{IsAlong, IsOrderOf, IsPrinted, PhasesRan};
 ghost use Rattle.ipe_weave.specs.Run.{IsNumbered};
-ghost use Rattle.ipe_weave.specs.Seats.{Closes, PhaseMet, PhasesDone};
 ghost use Rattle.ipe_weave.specs.Told.{IsFit, entry_of};
 ghost use Rattle.std.specs.List.{AllByRecursion, AllZip};
 ghost use Rattle.std.specs.Prelude.{[], map};
@@ -51,20 +50,6 @@ pub fn gate_run_can_be_printed()
     ensures { (verdicts : _) (workers : _) (whole : _) (script : _) (phases : _) → Legal whole →
         PhasesRan (gate_basis verdicts) workers first_policies [] whole script phases →
         (printed : _) × AllZip IsPrinted phases printed }
-{
-    commands_stay_or_begin();
-    images_are_read_as_themselves();
-}
-
-/// What each seat had seen before a phase and has seen when all have met makes it a phase in the gate's one history;
-/// and phases, one after another up to a closed gate, are a run.
-pub fn phases_meet()
-    ensures phase { (verdicts : _) (workers : _) (policies : _) (before : _) (after : _) (lines : _) (entries : _) →
-        PhaseMet (gate_basis verdicts) workers policies before after lines entries →
-        PhaseRan (gate_basis verdicts) workers policies before after lines entries }
-    ensures run { (verdicts : _) (workers : _) (policies : _) (before : _) (now : _) (whole : _) (script : _)
-        (phases : _) → PhasesDone (gate_basis verdicts) workers policies before now script phases →
-        Closes now whole → PhasesRan (gate_basis verdicts) workers policies before whole script phases }
 {
     commands_stay_or_begin();
     images_are_read_as_themselves();

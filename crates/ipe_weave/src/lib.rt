@@ -9,9 +9,10 @@
 #![tactic(auto)]
 
 mod laws;
+mod seats;
 
 pub use laws::{
     file_order_can_be_printed, file_order_is_printed_along_an_order,
-    gate_history_stands_for_the_printed_order, gate_run_can_be_printed, phases_meet,
-    told_entries_are_printed,
+    gate_history_stands_for_the_printed_order, gate_run_can_be_printed, told_entries_are_printed,
 };
+pub use seats::{administrator_runs_one_more, phases_meet, workers_run_one_more};

@@ -1,0 +1,80 @@
+ghost use Rattle.ipe_gate_rule.specs.History.{GoesOnFrom};
+ghost use Rattle.ipe_gate_rule.specs.Owners.{administrator_events, own_events};
+ghost use Rattle.ipe_gate_rule.specs.declared.event.Event.TheVariants.{Claim, Return, Store, Switch};
+ghost use Rattle.ipe_machine.specs.Policies.{Policies};
+ghost use Rattle.ipe_weave.specs.Gate.{GateBegins, gate_basis};
+ghost use Rattle.ipe_weave.specs.Lines.{Acted, task_in};
+ghost use Rattle.ipe_weave.specs.Phases.{PhaseRan, PhasesRan};
+ghost use Rattle.ipe_weave.specs.Seats.{AdminRan, Closes, PhaseMet, PhasesDone, WorkerRan, policies_through};
+ghost use Rattle.ipe_weave.specs.Standing.{AnsweredBy, ClaimedAt, IsIdle, is_active, policies_after, policies_then};
+ghost use Rattle.std.specs.Prelude.{◌≡◌, ◌==◌, ◌++◌, ◌∷◌, [], List, false, map, true};
+
+use ipe_image::images_are_read_as_themselves;
+use ipe_machine::commands_stay_or_begin;
+
+/// What one more step or line adds to a worker's lines of a phase, on the gate: nothing ran at first; a hook that is
+/// evaluated is answered at its claim; a return leaves what ran; a hook that isn't evaluated makes no step.
+pub fn workers_run_one_more()
+    ensures starts { (verdicts : _) (p : _) (first : _) → WorkerRan (gate_basis verdicts) p first first [] }
+    ensures claims { (verdicts : _) (p : _) (first : _) (old : _) (before : _) (entries : _) (entry : Acted) →
+        WorkerRan (gate_basis verdicts) p first old entries → GoesOnFrom before old →
+        own_events p before ≡ own_events p old → is_active entry ≡ true → IsIdle entry →
+        ClaimedAt (gate_basis verdicts) entry (record { event = Claim p; before = before }) →
+        WorkerRan (gate_basis verdicts) p first (Claim p ∷ before) (entries ++ entry ∷ []) }
+    ensures returns { (verdicts : _) (p : _) (first : _) (old : _) (before : _) (entries : _) →
+        WorkerRan (gate_basis verdicts) p first old entries → GoesOnFrom before old →
+        own_events p before ≡ own_events p old →
+        WorkerRan (gate_basis verdicts) p first (Return p ∷ before) entries }
+    ensures idles { (verdicts : _) (p : _) (first : _) (old : _) (entries : _) (entry : Acted) →
+        WorkerRan (gate_basis verdicts) p first old entries → is_active entry ≡ false → IsIdle entry →
+        WorkerRan (gate_basis verdicts) p first old (entries ++ entry ∷ []) }
+{
+    commands_stay_or_begin();
+    images_are_read_as_themselves();
+}
+
+/// The same of the administrator's lines: a write that leaves the epoch, and a read, make no switch; a write that raises
+/// it is answered at its switch; a store leaves what ran.
+pub fn administrator_runs_one_more()
+    ensures calms { (verdicts : _) (policies : _) (first : _) (old : _) (entries : _) (entry : Acted) →
+        let now : Policies = policies_then verdicts policies (map task_in entries) in
+        AdminRan (gate_basis verdicts) policies first old entries →
+        AnsweredBy verdicts now entry.line.task entry.reply →
+        ((policies_after verdicts now entry.line.task).epoch == now.epoch) ≡ true →
+        AdminRan (gate_basis verdicts) policies first old (entries ++ entry ∷ []) }
+    ensures switches { (verdicts : _) (policies : _) (first : _) (old : _) (before : _) (entries : _) (entry : Acted)
+        (slot : _) (enforce : _) (success : _) →
+        let now : Policies = policies_then verdicts policies (map task_in entries) in
+        AdminRan (gate_basis verdicts) policies first old entries → GoesOnFrom before old →
+        administrator_events before ≡ administrator_events old →
+        AnsweredBy verdicts now entry.line.task entry.reply →
+        ((policies_after verdicts now entry.line.task).epoch == now.epoch) ≡ false →
+        GateBegins (Switch slot enforce success) before (policies_after verdicts now entry.line.task) →
+        AdminRan (gate_basis verdicts) policies first (Switch slot enforce success ∷ before) (entries ++ entry ∷ []) }
+    ensures stores { (verdicts : _) (policies : _) (first : _) (old : _) (before : _) (entries : _) (slot : _)
+        (index : _) (word : _) → AdminRan (gate_basis verdicts) policies first old entries → GoesOnFrom before old →
+        administrator_events before ≡ administrator_events old →
+        AdminRan (gate_basis verdicts) policies first (Store slot index word ∷ before) entries }
+{
+    commands_stay_or_begin();
+    images_are_read_as_themselves();
+}
+
+/// What each seat had seen before a phase and has seen when all have met makes it a phase in the gate's one history; one
+/// phase more may follow those that are done; and up to a closed gate they are a run.
+pub fn phases_meet()
+    ensures phase { (verdicts : _) (workers : _) (policies : _) (before : _) (after : _) (lines : _) (entries : _) →
+        PhaseMet (gate_basis verdicts) workers policies before after lines entries →
+        PhaseRan (gate_basis verdicts) workers policies before after lines entries }
+    ensures more { (verdicts : _) (workers : _) (policies : _) (before : _) (now : _) (after : _) (script : _)
+        (phases : _) (lines : _) (entries : List Acted) →
+        PhasesDone (gate_basis verdicts) workers policies before now script phases →
+        PhaseRan (gate_basis verdicts) workers (policies_through verdicts policies phases) now after lines entries →
+        PhasesDone (gate_basis verdicts) workers policies before after (script ++ lines ∷ []) (phases ++ entries ∷ []) }
+    ensures run { (verdicts : _) (workers : _) (policies : _) (before : _) (now : _) (whole : _) (script : _)
+        (phases : _) → PhasesDone (gate_basis verdicts) workers policies before now script phases →
+        Closes now whole → PhasesRan (gate_basis verdicts) workers policies before whole script phases }
+{
+    commands_stay_or_begin();
+    images_are_read_as_themselves();
+}
