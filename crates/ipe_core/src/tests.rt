@@ -307,7 +307,7 @@ fn signer_of(alloc: Global, text: &str, marks: &[(Purpose, Verdict)]) -> Result<
             digest: DigestBytes::read(&digest).ok_or("a digest")?,
         })?;
     }
-    Ok(TrustList::new(Marks::from_vec(items)))
+    Ok(TrustList::new(alloc, Marks::from_vec(items))?)
 }
 
 // The code of a load of this text, where it is marked so.
@@ -350,7 +350,7 @@ fn a_text_over_the_limit_is_too_big(rt: HostRuntime) -> Result<(), Fail> {
         answer_to(&rt, alloc, &TrustsAll, &mut state, act)?,
         (0, -7)
     );
-    let signer = TrustList::new(Marks::from_vec(Vec::new(alloc)));
+    let signer = TrustList::new(alloc, Marks::from_vec(Vec::new(alloc)))?;
     let act = Act::Load(Text::from_vec(vec![in alloc; b'#'; 1_048_577]?));
     assert_eq!(rt; answer_to(&rt, alloc, &signer, &mut state, act)?, (0, -7));
     Ok(())

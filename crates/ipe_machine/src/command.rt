@@ -1,36 +1,11 @@
-ghost use Rattle.std.specs.Prelude.{◌≡◌, List, ℕ};
+ghost use Rattle.std.specs.Prelude.{◌≡◌};
 ghost use Rattle.ipe_machine.specs.Refusals.{value_of};
 
 use ipe_policy::Name;
-use std::marker::Model;
+use line_words::Bytes;
 
 /// The text of a policy, as bytes.
-#[derive(Debug, Drop)]
-pub struct Text {
-    items: Vec<u8>,
-}
-
-impl Model for Text {
-    ghost Value = { List ℕ };
-
-    ghost view = { λ s. s.items.items };
-}
-
-impl Text {
-    /// The text with these bytes.
-    pub fn from_vec(items: Vec<u8>) -> Self
-        ensures { result ≡ items.items }
-    {
-        Text { items }
-    }
-
-    /// The bytes.
-    pub fn as_slice(&self) -> &[u8]
-        ensures { result.now ≡ self.now }
-    {
-        self.items.as_slice()
-    }
-}
+pub type Text = Bytes;
 
 /// What is written to a switch, to `active` or to `delete`.
 #[derive(Clone, Copy, Debug, PartialEq, Eq)]

@@ -1,8 +1,6 @@
-ghost use Rattle.std.specs.Prelude.{◌≡◌};
-
 use crate::{Command, Done, Refusal};
 use ipe_policy::{Context, Found, Object, Request, Subject};
-use std::marker::Model;
+use line_words::Items;
 
 /// One event of the machine: a command, a claim of a pass, or a return of what a pass holds.
 #[derive(Debug, Drop)]
@@ -55,63 +53,7 @@ pub enum Reply {
 }
 
 /// Events, in order.
-#[derive(Debug, Drop)]
-pub struct Events {
-    items: Vec<Event>,
-}
-
-impl Model for Events {
-    ghost use Rattle.std.specs.Prelude.{List};
-    ghost use Rattle.ipe_machine.specs.declared.event.Event.{Event};
-
-    ghost Value = { List Event };
-
-    ghost view = { λ s. s.items.items };
-}
-
-impl Events {
-    /// The list with these items.
-    pub fn from_vec(items: Vec<Event>) -> Self
-        ensures { result ≡ items.items }
-    {
-        Events { items }
-    }
-
-    /// The items, in order.
-    pub fn as_slice(&self) -> &[Event]
-        ensures { result.now ≡ self.now }
-    {
-        self.items.as_slice()
-    }
-}
+pub type Events = Items<Event>;
 
 /// Replies, in the order of the events.
-#[derive(Debug, Drop)]
-pub struct Replies {
-    items: Vec<Reply>,
-}
-
-impl Model for Replies {
-    ghost use Rattle.std.specs.Prelude.{List};
-    ghost use Rattle.ipe_machine.specs.declared.event.Reply.{Reply};
-
-    ghost Value = { List Reply };
-
-    ghost view = { λ s. s.items.items };
-}
-
-impl Replies {
-    /// The list with these items.
-    pub fn from_vec(items: Vec<Reply>) -> Self
-        ensures { result ≡ items.items }
-    {
-        Replies { items }
-    }
-
-    /// The items, in order.
-    pub fn as_slice(&self) -> &[Reply]
-        ensures { result.now ≡ self.now }
-    {
-        self.items.as_slice()
-    }
-}
+pub type Replies = Items<Reply>;

@@ -20,7 +20,7 @@ fn a_root_and_a_file_are_trusted_apart(rt: HostRuntime) -> Result<(), Fail> {
             digest: digest_of(byte)?.bytes,
         })?;
     }
-    let signer = TrustList::new(Marks::from_vec(marks));
+    let signer = TrustList::new(rt.alloc(), Marks::from_vec(marks))?;
     for (byte, volume, file) in [(1, true, false), (2, false, true), (3, false, false)] {
         let digest = digest_of(byte)?;
         assert_eq!(rt; dm_props(&signer, &digest, true).signed, volume);

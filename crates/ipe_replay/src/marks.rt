@@ -121,5 +121,5 @@ pub(crate) fn signer_of(alloc: Global, requests: &Requests) -> Result<TrustList,
     for mark in &requests.marks {
         marks.push(mark_of(requests, &mut known, mark)?)?;
     }
-    Ok(TrustList::new(Marks::from_vec(marks)))
+    TrustList::new(alloc, Marks::from_vec(marks))
 }

@@ -120,6 +120,22 @@ fn replay_phases(
     Ok(())
 }
 
+// The text of all phases, between the first line and the last.
+fn transcript_of(replay: &Replay<'_>) -> Result<Vec<u8>, AllocError>
+    requires { sum_by length replay.now.requests.now.phases < 2 ^ 32 }
+    ensures { IfOk result (λ text. text.items
+        ≡ transcript replay.now.requests.now (map printed replay.now.requests.now.phases)) }
+{
+    let mut running = Running {
+        state: State::new(replay.alloc, 1)?,
+        image: None,
+    };
+    let mut out = b"ipe-transcript 1\n".to_vec(replay.alloc)?;
+    replay_phases(replay, &mut running, &mut out)?;
+    out.extend_from_slice(b"end\n")?;
+    Ok(out)
+}
+
 /// The transcript of the file's lines: in each phase the hooks before the first that is evaluated, the administrator's
 /// lines, and the other hooks. The records that a line makes stand behind its entry. Where the lines of each phase are in
 /// the order of the file, this is an order that keeps each one's lines in that one's order and has each entry in its place.
@@ -130,17 +146,10 @@ pub fn replay(alloc: Global, requests: &Requests) -> Result<Vec<u8>, AllocError>
         × IsWeave requests.now order × IsInPlace requests.now order × (text.items ≡ transcript requests.now order)) }
 {
     printed_order_is_in_place();
-    let replay = Replay {
+    let signer = signer_of(alloc, requests)?;
+    transcript_of(&Replay {
         alloc,
         requests,
-        signer: signer_of(alloc, requests)?,
-    };
-    let mut running = Running {
-        state: State::new(alloc, 1)?,
-        image: None,
-    };
-    let mut out = b"ipe-transcript 1\n".to_vec(alloc)?;
-    replay_phases(&replay, &mut running, &mut out)?;
-    out.extend_from_slice(b"end\n")?;
-    Ok(out)
+        signer,
+    })
 }

@@ -1,7 +1,9 @@
 -- What a list of marks says of a digest.
 use Rattle.std.specs.Prelude.{ℕ, ◌==◌, ◌&&◌, Bool, List, reverse}
+use Rattle.std.specs.declared.vec.Vec.{Vec}
 use Rattle.std.specs.List.{find}
-use Rattle.std.specs.Option.{option_map_or}
+use Rattle.std.specs.Option.{option_map_or, unwrap_or}
+use Rattle.std.specs.Map.{lookup}
 use Rattle.line_words.specs.Words.{is_text}
 use Rattle.ipe_signer.specs.declared.signer.Purpose.{Purpose}
 use Rattle.ipe_signer.specs.declared.signer.Purpose.TheVariants.{Policy, Root, File}
@@ -27,3 +29,7 @@ is_about purpose digest mark = same_purpose purpose mark.purpose && is_text dige
 abbrev pub last_verdict : List Mark → Purpose → List ℕ → Verdict
 last_verdict marks purpose digest =
     option_map_or (λ (mark : Mark). mark.verdict) (find (is_about purpose digest) (reverse marks)) Unknown
+
+-- the verdict that stands beside a digest among those of one purpose; Unknown where there is none
+abbrev pub verdict_at : {A : Type 0} → List (Vec ℕ A × Verdict) → List ℕ → Verdict
+verdict_at entries digest = unwrap_or (lookup (λ key. is_text key.items digest) entries) Unknown
