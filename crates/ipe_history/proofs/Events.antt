@@ -1,7 +1,6 @@
 -- Lines are the machine's own events.
-use Rattle.std.proofs.Common.{◌≡◌, ℕ, ◌≤◌, Bool, true, false, cond, List, [], ◌∷◌, ◌++◌, Option, Some, None, Result, Ok, Err, is_some, refl, sym, ap, ◌∙◌}
+use Rattle.std.proofs.Common.{◌≡◌, ◌≤◌, Bool, true, false, cond, List, [], ◌∷◌, ◌++◌, Some, Result, Ok, Err, is_some, refl, sym, ap, ◌∙◌}
 use Rattle.std.specs.Prelude.{◌&&◌}
-use Rattle.ipe_policy.specs.declared.op.Op.{Op}
 use Rattle.ipe_policy.specs.Version.{packed}
 use Rattle.ipe_policy.specs.Request.{evaluated_op}
 use Rattle.ipe_machine.specs.declared.command.Command.{Command}
@@ -10,7 +9,7 @@ use Rattle.ipe_machine.specs.declared.event.Event.{Event}
 use Rattle.ipe_machine.specs.declared.event.Event.TheVariants as event
 use Rattle.ipe_machine.specs.Policies.{Loaded, active_entry}
 use Rattle.ipe_machine.specs.Answer.{Verdicts}
-use Rattle.ipe_machine.specs.Machine.{Machine, after_event, first_machine}
+use Rattle.ipe_machine.specs.Machine.{Machine, after_event}
 use Rattle.ipe_machine.specs.Run.{after_all}
 use Rattle.ipe_machine.specs.Law.{ActiveVersionNeverFalls}
 use Rattle.ipe_script.specs.declared.script.PhaseLine.{PhaseLine}

@@ -3,7 +3,7 @@ use Rattle.std.proofs.Common.{◌≡◌, ℕ, ◌+◌, ◌-◌, suc, Bool, true,
 use Rattle.std.specs.Prelude.{codes, slice_get, slice_set}
 use Rattle.std.specs.List.{AllByRecursion, filter_map, remove}
 use Rattle.std.specs.Fmt.{decimal}
-use Rattle.std.specs.Option.{option_and_then, option_map, option_map_or}
+use Rattle.std.specs.Option.{option_map, option_map_or}
 use Rattle.std.proofs.lemmas.List.Elements.{All-append, All-drop, All-from_recursion, All-set, All-take, recursion_from_All}
 use Rattle.hex.specs.Hex.{encode_lower}
 use Rattle.ipe_policy.specs.declared.op.Op.{Op}
@@ -37,8 +37,8 @@ use Rattle.ipe_machine.specs.declared.answer.Done.{Done}
 use Rattle.ipe_machine.specs.declared.answer.Done.TheVariants as done
 use Rattle.ipe_machine.specs.declared.answer.Refusal.{Refusal}
 use Rattle.ipe_machine.specs.Policies.{Policies, Loaded, active_entry, entry_named, entry_of, is_active, place_of, policy_in, replaced}
-use Rattle.ipe_machine.specs.Change.{Change, Loads, Updates, Activates, Deletes, SetsEnforce, SetsSuccess, change_of, changed, is_true, later}
-use Rattle.ipe_machine.specs.Answer.{Verdicts, after, after_answer, answer, change_by, is_step}
+use Rattle.ipe_machine.specs.Change.{Change, change_of, changed, is_true, later}
+use Rattle.ipe_machine.specs.Answer.{Verdicts, after, after_answer, answer, is_step}
 use Rattle.ipe_records.specs.Records.{access_by, access_for, access_of, access_under, activation_of, brief_of, change_records, is_access_due, records_of, records_with}
 use Rattle.ipe_history.specs.Spelled.{line_spells}
 use Rattle.ipe_history.proofs.Cuts.{All_both}

@@ -17,15 +17,6 @@ pub either_way : (test : Bool) (early : Done) (rest : Result Done Refusal) (did 
 either_way true early rest did is = inl cc
 either_way false early rest did is = inr is
 
--- what some first cases refuse is refused, whatever the cases behind them
-pub refused_by : (cases more : List Case) (one done : Done) (why : Refusal) → answer_by cases one ≡ Err why → answer_by (cases ++ more) done ≡ Err why
-refused_by [] more one done why is = cc
-refused_by (case ∷ cases) more one done why is = go (refused_by cases more one done why) case.0 is
-  where
-    go : (answer_by cases one ≡ Err why → answer_by (cases ++ more) done ≡ Err why) → (test : Bool) → cond test case.1 (answer_by cases one) ≡ Err why → cond test case.1 (answer_by (cases ++ more) done) ≡ Err why
-    go rest true is = is
-    go rest false is = rest is
-
 -- what some first cases that only refuse let pass goes on to the cases behind them
 pub passed_by : (cases more : List Case) (one done : Done) → AllByRecursion (λ (case : Case). IsErr case.1) cases → answer_by cases one ≡ Ok one → answer_by (cases ++ more) done ≡ answer_by more done
 passed_by [] more one done refuse is = refl

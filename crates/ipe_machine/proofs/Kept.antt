@@ -1,5 +1,5 @@
 -- What each command keeps of the active policy: one stays active, and its version doesn't fall.
-use Rattle.std.proofs.Common.{◌≡◌, ℕ, ◌+◌, ◌≤◌, not, eqb, Bool, true, false, cond, List, [], ◌∷◌, ◌++◌, length, get_or, Option, Some, None, Result, Ok, Err, refl, sym, ap, subst, ◌∙◌, inl, inr, ◌⊎◌, arith}
+use Rattle.std.proofs.Common.{◌≡◌, ℕ, ◌≤◌, not, Bool, true, false, cond, List, [], ◌∷◌, ◌++◌, length, get_or, Option, Some, None, Result, Ok, Err, refl, sym, ap, subst, ◌∙◌, inl, inr, arith}
 use Rattle.std.specs.Prelude.{is_none, nat_lt}
 use Rattle.std.specs.List.{find, slice_set, remove}
 use Rattle.std.specs.Option.{option_map_or, option_and_then}
@@ -27,7 +27,7 @@ use Rattle.ipe_machine.specs.declared.event.Event.{Event}
 use Rattle.ipe_machine.specs.declared.event.Event.TheVariants as event
 use Rattle.ipe_machine.specs.Policies.{Policies, Loaded, place_of, entry_named, entry_version, is_named, is_active, active_entry, policy_in, fault_in, entry_of, replaced, without}
 use Rattle.ipe_machine.specs.Change.{changed, is_true, later, updated}
-use Rattle.ipe_machine.specs.Answer.{Verdicts, act_answer, after, after_answer, most_text, most_words, verdict_on, is_revoked, is_unknown, words_in, last_epoch}
+use Rattle.ipe_machine.specs.Answer.{Verdicts, act_answer, after, after_answer, most_text, most_words, verdict_on, is_revoked, is_unknown, words_in}
 use Rattle.ipe_machine.specs.Machine.{Machine, after_event, after_claim, claimed, first_machine}
 use Rattle.ipe_machine.specs.Run.{after_all}
 use Rattle.ipe_machine.specs.Law.{ActiveVersionNeverFalls}

@@ -1,5 +1,5 @@
 -- What a command does to the epoch, and what it leaves where it leaves that.
-use Rattle.std.specs.Prelude.{◌≡◌, ◌⊎◌, ℕ, ◌+◌, List, Option, Some}
+use Rattle.std.specs.Prelude.{◌≡◌, ◌⊎◌, ℕ, ◌+◌, List, Some}
 use Rattle.ipe_machine.specs.declared.command.Command.{Command}
 use Rattle.ipe_machine.specs.Policies.{Policies, Loaded, active_entry}
 use Rattle.ipe_machine.specs.Answer.{Verdicts, after}
