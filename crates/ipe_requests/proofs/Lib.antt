@@ -5,6 +5,7 @@ mod Files
 mod Found
 mod Laws
 mod Pieces
+mod Printed
 mod Results
 mod SoFar
 mod Spelled

@@ -19,6 +19,7 @@ mod known;
 mod law;
 mod line;
 mod mark;
+mod print;
 mod reader;
 mod requests;
 mod script;
@@ -30,6 +31,7 @@ pub use law::{
     words_have_one_shape,
 };
 pub use line::ScriptKind;
+pub use print::print_requests;
 pub use reader::{ScriptError, parse_requests};
 pub use requests::Requests;
 pub use script::{
