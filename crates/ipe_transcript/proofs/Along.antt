@@ -8,7 +8,7 @@ module _ {X Y : Type 0} (actor : X → ℕ) (key : X → Option Key) (actor_y : 
   abbrev pub Keeps : X → Type 0
   Keeps x = (actor_y (f x) ≡ actor x) × (key_y (f x) ≡ key x)
 
-  own_along : (a : ℕ) (xs : List X) → AllByRecursion Keeps xs → own_of actor_y a (map f xs) ≡ map f (own_of actor a xs)
+  pub own_along : (a : ℕ) (xs : List X) → AllByRecursion Keeps xs → own_of actor_y a (map f xs) ≡ map f (own_of actor a xs)
   own_along a [] keep = refl
   own_along a (x ∷ xs) keep =
       ap (λ (n : ℕ). cond (n == a) (f x ∷ own_of actor_y a (map f xs)) (own_of actor_y a (map f xs))) keep.0.0

@@ -13,6 +13,7 @@ pub mod Rounds
 pub mod Bases
 pub mod FileRun
 pub mod InEpoch
+pub mod Numbers
 pub mod Printing
 pub mod Gates
 pub mod Telling

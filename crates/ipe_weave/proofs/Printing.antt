@@ -15,12 +15,8 @@ use Rattle.ipe_weave.proofs.Founded.{Founded}
 use Rattle.ipe_weave.proofs.Whole.{then_own, lines_policies, starts, history_orders, orders_are_there}
 use Rattle.ipe_weave.proofs.Bases.{founded_run}
 use Rattle.ipe_weave.proofs.FileRun.{AreTold, told_both, run_agrees, run_may_be, file_run}
+use Rattle.ipe_weave.proofs.Numbers.{own_rise_all, run_lines}
 use Rattle.ipe_weave.proofs.InEpoch.{lines_told, none_first}
-
--- the lines of a run's entries are the lines
-run_lines : (verdicts : Verdicts) (machine : Machine) (lines : List Line) → map line_in (entries_of verdicts machine lines) ≡ lines
-run_lines verdicts machine [] = refl
-run_lines verdicts machine (line ∷ lines) = ap (λ (ls : List Line). line ∷ ls) (run_lines verdicts (after_line verdicts machine line) lines)
 
 within_joined : (workers : ℕ) (script : List (List Line)) → AllByRecursion (AreWithin workers) script → AreWithin workers (joined script)
 within_joined workers [] all = tt
@@ -80,7 +76,7 @@ module _ (commands : CommandsStayOrBegin) (verdicts : Verdicts) (workers : ℕ) 
   ran =
       let start = starts based workers in
       phases_run commands verdicts in_epoch none workers script (first_machine workers) [] start
-      (lines_told commands verdicts workers (first_machine workers) (joined script) start.sound (within_joined workers script numbered.workers_are)) numbered.rising
+      (lines_told commands verdicts workers (first_machine workers) (joined script) start.sound (within_joined workers script numbered.workers_are)) (own_rise_all 0 script numbered.rising)
 
   may_be : MayBe based.basis whole
   may_be = phases_may_be commands verdicts in_epoch none workers script (first_machine workers) [] tt

@@ -1,14 +1,17 @@
 -- What is printed of lines and their replies stands as they do.
-use Rattle.std.proofs.Common.{◌≡◌, ℕ, List, [], ◌∷◌, map, Option, Some, None, refl}
+use Rattle.std.proofs.Common.{◌≡◌, ℕ, ◌<◌, List, [], ◌∷◌, map, Option, Some, None, refl, sym, ap, subst, ◌∙◌, arith}
 use Rattle.std.specs.List.{AllByRecursion}
 use Rattle.ipe_policy.specs.declared.op.Op.{Op}
 use Rattle.ipe_machine.specs.Answer.{Verdicts}
 use Rattle.ipe_machine.specs.Machine.{Machine}
 use Rattle.ipe_transcript.specs.declared.transcript.Content.{Content}
 use Rattle.ipe_transcript.specs.Entries as entries
-use Rattle.ipe_transcript.proofs.Along.{Keeps, printed_along}
-use Rattle.ipe_weave.specs.Lines.{Access, Task, Write, Read, Hook, Line, LineReply, wrote, told, ruled, Acted, actor_in, key_of, entries_of, task_reply, after_line, hook_reply}
+use Rattle.ipe_transcript.specs.Filing.{LinesRise}
+use Rattle.ipe_transcript.specs.Keys.{own_of}
+use Rattle.ipe_transcript.proofs.Along.{Keeps, own_along, printed_along}
+use Rattle.ipe_weave.specs.Lines.{Access, Task, Write, Read, Hook, Line, LineReply, wrote, told, ruled, Acted, actor_in, key_of, entries_of, task_reply, after_line, hook_reply, NumbersRise, own_lines, own_entries, line_in}
 use Rattle.ipe_weave.specs.Phases.{IsPrinted}
+use Rattle.ipe_weave.proofs.Numbers.{own_rise}
 use Rattle.ipe_weave.specs.Told.{entry_of, told_entry, Fits, IsFit}
 
 -- the machine's replies are of the kinds of their tasks
@@ -50,3 +53,27 @@ pub told_are_printed : (contents : Acted → Option Content) (phase : ℕ) (xs p
     → entries.IsPrinted (map (entry_of contents phase) xs) (map (entry_of contents phase) printed)
 told_are_printed contents phase xs printed fit fits is =
     printed_along actor_in key_of entries.actor_of entries.key_of (entry_of contents phase) xs printed (all_keep contents phase xs fit) (all_keep contents phase printed fits) is
+
+-- what is told of lines whose numbers rise rises too
+told_line : (phase : ℕ) (content : Option Content) (line : Line) (reply : LineReply) → entries.line_of (told_entry phase content line reply) ≡ line.number
+told_line phase content line (wrote epoch switched answer records) = refl
+told_line phase content line (told epoch answer) = refl
+told_line phase content line (ruled ruling access) = refl
+
+told_rise : (contents : Acted → Option Content) (phase : ℕ) (xs : List Acted) → NumbersRise (map line_in xs) → LinesRise entries.line_of (map (entry_of contents phase) xs)
+told_rise contents phase [] rise = tt
+told_rise contents phase (x ∷ []) rise = tt
+told_rise contents phase (x ∷ y ∷ xs) rise = (
+  omega (arith, rise.0, told_line phase (contents x) x.line x.reply, told_line phase (contents y) y.line y.reply),
+  told_rise contents phase (y ∷ xs) rise.1,
+)
+
+-- so do each one's own, in the order in which they are printed
+pub printed_rise : (contents : Acted → Option Content) (phase : ℕ) (lines : List Line) (xs printed : List Acted) → NumbersRise lines → ((a : ℕ) → map line_in (own_entries a xs) ≡ own_lines a lines) → AllByRecursion IsFit printed → IsPrinted xs printed
+    → (a : ℕ) → LinesRise entries.line_of (own_of entries.actor_of a (map (entry_of contents phase) printed))
+printed_rise contents phase lines xs printed rise all fit is a =
+    let own : own_of entries.actor_of a (map (entry_of contents phase) printed) ≡ map (entry_of contents phase) (own_entries a xs) =
+    own_along actor_in key_of entries.actor_of entries.key_of (entry_of contents phase) a printed (all_keep contents phase printed fit)
+    ∙ ap (map (entry_of contents phase)) (is.own a) in
+    let rises : NumbersRise (map line_in (own_entries a xs)) = subst NumbersRise (sym (all a)) (own_rise a lines rise) in
+    subst (LinesRise entries.line_of) (sym own) (told_rise contents phase (own_entries a xs) rises)

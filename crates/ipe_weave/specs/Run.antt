@@ -10,7 +10,7 @@ use Rattle.ipe_records.specs.Records.{access_with}
 use Rattle.ipe_gate_rule.specs.declared.event.Event.{Event}
 use Rattle.ipe_gate_rule.specs.declared.event.Event.TheVariants.{Store, Switch, Claim, Return, Look}
 use Rattle.ipe_gate_rule.specs.History.{enforce_of, success_of, epoch_of, count_of}
-use Rattle.ipe_weave.specs.Lines.{Access, Task, Write, Read, Hook, Line, LineReply, ruled, after_write, after_line, after_lines, own_lines, NumbersRise}
+use Rattle.ipe_weave.specs.Lines.{Access, Task, Write, Read, Hook, Line, LineReply, ruled, after_write, after_line, after_lines, NumbersRise}
 use Rattle.ipe_weave.specs.Standing.{policies_after}
 use Rattle.ipe_weave.specs.Basis.{Basis}
 
@@ -88,10 +88,10 @@ IsWithin workers (Hook worker op access) = (0 < worker) × (worker ≤ workers)
 abbrev pub AreWithin : ℕ → List Line → Type 0
 AreWithin workers lines = AllByRecursion (λ (line : Line). IsWithin workers line.task) lines
 
--- each hook of the phases is of one of the workers, and the administrator's lines rise within each phase
+-- each hook of the phases is of one of the workers, and the numbers of the lines rise within each phase
 pub record IsNumbered (workers : ℕ) (script : List (List Line)) : Type 0 where
   pub workers_are : AllByRecursion (AreWithin workers) script
-  pub rising : AllByRecursion (λ (lines : List Line). NumbersRise (own_lines 0 lines)) script
+  pub rising : AllByRecursion NumbersRise script
 
 -- the history of a run after phases
 abbrev pub phases_history : Verdicts → Machine → List Event → List (List Line) → List Event

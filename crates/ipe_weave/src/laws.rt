@@ -3,12 +3,14 @@ ghost use Rattle.ipe_machine.specs.Machine.{first_machine};
 ghost use Rattle.ipe_machine.specs.Policies.{first_policies};
 ghost use Rattle.ipe_weave.specs.Gate.{gate_basis};
 ghost use Rattle.ipe_transcript.specs.Entries as transcript;
-ghost use Rattle.ipe_weave.specs.Lines.{entries_of, phases_entries};
+ghost use Rattle.ipe_transcript.specs.Filing.{LinesRise};
+ghost use Rattle.ipe_transcript.specs.Keys.{own_of};
+ghost use Rattle.ipe_weave.specs.Lines.{NumbersRise, entries_of, line_in, own_entries, own_lines, phases_entries};
 ghost use Rattle.ipe_weave.specs.Phases.{IsAlong, IsOrderOf, IsPrinted, PhasesRan};
 ghost use Rattle.ipe_weave.specs.Run.{IsNumbered};
 ghost use Rattle.ipe_weave.specs.Told.{IsFit, entry_of};
 ghost use Rattle.std.specs.List.{AllByRecursion, AllZip};
-ghost use Rattle.std.specs.Prelude.{[], map};
+ghost use Rattle.std.specs.Prelude.{◌≡◌, [], ℕ, map};
 
 use ipe_image::images_are_read_as_themselves;
 use ipe_machine::commands_stay_or_begin;
@@ -55,11 +57,19 @@ pub fn gate_run_can_be_printed()
     images_are_read_as_themselves();
 }
 
-/// The machine's replies are of the kinds of their lines; and where they are, what is told of lines that are printed in
-/// such an order is so too, whatever the files behind hooks came to.
+/// The machine's replies are of the kinds of their lines, and each one's own entries are of its own lines. Where that is
+/// so, what is told of lines that are printed in such an order is so too, whatever the files behind hooks came to; and
+/// where the lines' numbers rise, each one's rise there.
 pub fn told_entries_are_printed()
     ensures fits { (verdicts : _) (machine : _) (lines : _) → AllByRecursion IsFit (entries_of verdicts machine lines) }
+    ensures own { (verdicts : _) (machine : _) (lines : _) (actor : ℕ) →
+        map line_in (own_entries actor (entries_of verdicts machine lines)) ≡ own_lines actor lines }
     ensures printed { (contents : _) (phase : _) (entries : _) (printed : _) → AllByRecursion IsFit entries →
         AllByRecursion IsFit printed → IsPrinted entries printed →
         transcript.IsPrinted (map (entry_of contents phase) entries) (map (entry_of contents phase) printed) }
+    ensures rising { (contents : _) (phase : _) (lines : _) (entries : _) (printed : _) → NumbersRise lines →
+        ((actor : ℕ) → map line_in (own_entries actor entries) ≡ own_lines actor lines) →
+        AllByRecursion IsFit printed → IsPrinted entries printed →
+        (actor : ℕ) → LinesRise transcript.line_of
+        (own_of transcript.actor_of actor (map (entry_of contents phase) printed)) }
 {}
