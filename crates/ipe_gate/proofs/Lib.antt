@@ -7,3 +7,4 @@ pub mod Placing
 pub mod Sums
 pub mod Reading
 pub mod Counting
+pub mod Meetings

@@ -5,3 +5,4 @@ pub mod Switching
 pub mod Placing
 pub mod Meeting
 pub mod Opening
+pub mod Gathering

@@ -11,6 +11,7 @@
 #![tactic(auto)]
 
 mod administrator;
+mod gathering;
 mod meeting;
 mod opening;
 mod pass;
