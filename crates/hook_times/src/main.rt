@@ -1,0 +1,36 @@
+//! `hook_times` does the same work so many times, to be measured from outside: `hook RULES THREADS TIMES` asks the gate
+//! from that many threads at once, on a policy of that many rules of which none matches; `decide RULES 1 TIMES` decides by
+//! the same policy without a gate; `add 0 1 TIMES` adds to a word that no other thread uses. It prints how many requests
+//! were denied, or the sum.
+#![tactic(auto)]
+
+mod work;
+
+use anyhow::{Context, Result};
+use std::{env, thread};
+use work::{additions, decisions, hooks, open_gate, policy_of};
+
+fn main(rt: HostRuntime) -> Result<()> {
+    let words: Vec<String> = env::args(&rt)?.skip(1).collect(rt.alloc())?;
+    let mode = words.get(0).context("what to do")?;
+    let rules = number(&words, 1)?;
+    let threads = number(&words, 2)?;
+    let times = number(&words, 3)?;
+    let policy = policy_of(rt.alloc(), rules)?;
+    let total = match mode.as_str() {
+        "hook" => {
+            let passes = open_gate(rt.alloc(), &policy, threads)?;
+            let denied = thread::map_vec(&rt, passes, &|pass| hooks(pass, times))?;
+            denied.iter().fold(0u64, |sum, n| sum.saturating_add(*n))
+        }
+        "decide" => decisions(&policy, times),
+        _ => additions(times),
+    };
+    println!(rt; "{total}")?;
+    Ok(())
+}
+
+fn number(words: &Vec<String>, place: usize) -> Result<u32> {
+    let word = words.get(place).context("a number")?;
+    Ok(word.parse::<u32>()?)
+}
