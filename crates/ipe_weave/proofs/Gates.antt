@@ -1,5 +1,5 @@
 -- The basis of the running gate has its laws.
-use Rattle.std.proofs.Common.{◌≡◌, ◌≢◌, ℕ, zero, suc, ◌+◌, ◌==◌, Bool, true, false, cond, List, [], ◌∷◌, Option, Some, None, refl, sym, ap, ◌∙◌}
+use Rattle.std.proofs.Common.{◌≡◌, ◌≢◌, ℕ, zero, suc, ◌==◌, cond, List, [], ◌∷◌, Option, Some, None, refl, sym, ap, ◌∙◌}
 use Rattle.std.specs.Prelude.{pos, negsuc, ◌&&◌}
 use Rattle.std.specs.Option.{option_map, option_and_then}
 use Rattle.std.proofs.lemmas.Bool.{ne_eqb}
@@ -7,10 +7,9 @@ use Rattle.ipe_policy.specs.declared.op.Op.{Op}
 use Rattle.ipe_policy.specs.declared.evaluation.Context.{Context}
 use Rattle.ipe_policy.specs.declared.evaluation.Found.{Found}
 use Rattle.ipe_policy.specs.Request.{evaluated_op}
-use Rattle.ipe_policy.specs.Evaluation.{decision}
-use Rattle.ipe_image.specs.Parts.{ImageParts, parts_of}
+use Rattle.ipe_image.specs.Parts.{ImageParts}
 use Rattle.ipe_image.specs.Reading.{image_in}
-use Rattle.ipe_image.specs.Decision.{deciding, decision_in}
+use Rattle.ipe_image.specs.Decision.{deciding}
 use Rattle.ipe_image.specs.Law.{DecideAlike}
 use Rattle.ipe_machine.specs.declared.event.CoreRuling.{CoreRuling}
 use Rattle.ipe_machine.specs.Policies as state
@@ -23,13 +22,13 @@ use Rattle.ipe_records.specs.Ruled.{parts_in}
 use Rattle.ipe_gate_rule.specs.declared.event.Event.{Event}
 use Rattle.ipe_gate_rule.specs.declared.event.Event.TheVariants.{Store, Switch, Claim, Return, Look}
 use Rattle.ipe_gate_rule.specs.History.{active_slot, enforce_of, content}
-use Rattle.ipe_gate_rule.specs.Regions.{listed, words_at, region}
+use Rattle.ipe_gate_rule.specs.Regions.{listed, words_at}
 use Rattle.ipe_gate_rule.specs.Legal.{Legal}
-use Rattle.ipe_weave.specs.Lines.{Access, LineReply, ruled, hook_reply}
+use Rattle.ipe_weave.specs.Lines.{Access, ruled, hook_reply}
 use Rattle.ipe_weave.specs.Basis.{MayBe}
 use Rattle.ipe_weave.specs.Standing.{IsLike}
-use Rattle.ipe_weave.specs.Run.{machine_at, claimed_by}
-use Rattle.ipe_weave.specs.Gate.{image_at, image_of, ruling_by_image, record_by_image, claimed_by_image, Holds, GateBegins, gate_basis}
+use Rattle.ipe_weave.specs.Run.{machine_at}
+use Rattle.ipe_weave.specs.Gate.{image_at, image_of, ruling_by_image, record_by_image, claimed_by_image, Holds, gate_basis}
 use Rattle.ipe_weave.proofs.Founded.{IsBasis, Founded}
 use Rattle.ipe_weave.proofs.Bases.{entry_answers}
 

@@ -16,4 +16,5 @@ pub mod InEpoch
 pub mod Numbers
 pub mod Printing
 pub mod Gates
+pub mod Hooked
 pub mod Telling

@@ -1,12 +1,12 @@
 -- Lines whose numbers rise: so do each one's own.
-use Rattle.std.proofs.Common.{◌≡◌, ℕ, ◌==◌, inl, inr, Bool, true, false, List, [], ◌∷◌, map, Option, None, refl, sym, ap, subst, ◌∙◌, arith}
+use Rattle.std.proofs.Common.{◌≡◌, ℕ, ◌==◌, inl, inr, List, [], ◌∷◌, map, Option, None, refl, sym, ap, subst, ◌∙◌, arith}
 use Rattle.std.specs.List.{AllByRecursion}
 use Rattle.std.proofs.lemmas.Bool.{cases_Bool}
 use Rattle.ipe_machine.specs.Answer.{Verdicts}
 use Rattle.ipe_machine.specs.Machine.{Machine}
-use Rattle.ipe_transcript.specs.Keys.{Key, own_of}
+use Rattle.ipe_transcript.specs.Keys.{Key}
 use Rattle.ipe_transcript.proofs.Once.{own-first, own-skip}
-use Rattle.ipe_weave.specs.Lines.{Line, Acted, NumbersRise, actor_of, own_lines, own_entries, line_in, after_line, entries_of}
+use Rattle.ipe_weave.specs.Lines.{Line, NumbersRise, actor_of, own_lines, own_entries, line_in, after_line, entries_of}
 use Rattle.ipe_weave.proofs.Phase.{own_map}
 
 abbrev no_key : Line → Option Key

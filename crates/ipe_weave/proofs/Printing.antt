@@ -6,7 +6,7 @@ use Rattle.ipe_machine.specs.Answer.{Verdicts}
 use Rattle.ipe_machine.specs.Machine.{Machine, first_machine}
 use Rattle.ipe_machine.specs.Epochs.{CommandsStayOrBegin}
 use Rattle.ipe_gate_rule.specs.declared.event.Event.{Event}
-use Rattle.ipe_weave.specs.Lines.{Task, Line, task_of, after_line, after_lines, Acted, line_in, task_in, entries_of, phases_entries, own_lines, own_entries, NumbersRise, joined}
+use Rattle.ipe_weave.specs.Lines.{Task, Line, task_of, after_lines, Acted, task_in, entries_of, phases_entries, own_lines, own_entries, NumbersRise, joined}
 use Rattle.ipe_weave.specs.Basis.{MayBe}
 use Rattle.ipe_weave.specs.Standing.{policies_then, Agree}
 use Rattle.ipe_weave.specs.Phases.{PhasesRan, IsPrinted, IsAlong}

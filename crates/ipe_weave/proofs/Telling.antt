@@ -1,5 +1,5 @@
 -- What is printed of lines and their replies stands as they do.
-use Rattle.std.proofs.Common.{◌≡◌, ℕ, ◌<◌, List, [], ◌∷◌, map, Option, Some, None, refl, sym, ap, subst, ◌∙◌, arith}
+use Rattle.std.proofs.Common.{◌≡◌, ℕ, List, [], ◌∷◌, map, Option, Some, None, refl, sym, ap, subst, ◌∙◌, arith}
 use Rattle.std.specs.List.{AllByRecursion}
 use Rattle.ipe_policy.specs.declared.op.Op.{Op}
 use Rattle.ipe_machine.specs.Answer.{Verdicts}

@@ -15,4 +15,6 @@ pub use laws::{
     file_order_can_be_printed, file_order_is_printed_along_an_order,
     gate_history_stands_for_the_printed_order, gate_run_can_be_printed, told_entries_are_printed,
 };
-pub use seats::{administrator_runs_one_more, phases_meet, workers_run_one_more};
+pub use seats::{
+    administrator_runs_one_more, hooks_are_ruled_at_their_claims, phases_meet, workers_run_one_more,
+};

@@ -1,8 +1,10 @@
-ghost use Rattle.ipe_gate_rule.specs.History.{GoesOnFrom};
+ghost use Rattle.ipe_gate_rule.specs.History.{GoesOnFrom, active_slot};
 ghost use Rattle.ipe_gate_rule.specs.Owners.{administrator_events, own_events};
 ghost use Rattle.ipe_gate_rule.specs.declared.event.Event.TheVariants.{Claim, Return, Store, Switch};
 ghost use Rattle.ipe_machine.specs.Policies.{Policies};
-ghost use Rattle.ipe_weave.specs.Gate.{GateBegins, gate_basis};
+ghost use Rattle.ipe_hooks.specs.Hooks.{IsHook};
+ghost use Rattle.ipe_hooks.specs.Law.{machine_ruling};
+ghost use Rattle.ipe_weave.specs.Gate.{GateBegins, gate_basis, image_at, ruling_by_image};
 ghost use Rattle.ipe_weave.specs.Lines.{Acted, task_in};
 ghost use Rattle.ipe_weave.specs.Phases.{PhaseRan, PhasesRan};
 ghost use Rattle.ipe_weave.specs.Seats.{AdminRan, Closes, PhaseMet, PhasesDone, WorkerRan, policies_through};
@@ -11,6 +13,13 @@ ghost use Rattle.std.specs.Prelude.{◌≡◌, ◌==◌, ◌++◌, ◌∷◌, []
 
 use ipe_image::images_are_read_as_themselves;
 use ipe_machine::commands_stay_or_begin;
+
+/// A hook on a request that is evaluated is ruled as a claim is where it made its own, by the image in the slot that is
+/// active there. This call and the others here do nothing: their contracts are laws.
+pub fn hooks_are_ruled_at_their_claims()
+    ensures { (p : _) (q : _) (op : _) (context : _) (ruling : _) (is : IsHook p q op context ruling) →
+        machine_ruling ruling ≡ ruling_by_image is.before (image_at (active_slot is.before) is.before) op context }
+{}
 
 /// What one more step or line adds to a worker's lines of a phase, on the gate: nothing ran at first; a hook that is
 /// evaluated is answered at its claim; a return leaves what ran; a hook that isn't evaluated makes no step.
