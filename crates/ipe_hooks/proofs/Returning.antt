@@ -1,5 +1,5 @@
 -- What is known of a pass after its claim, and after its return behind a decision.
-use Rattle.std.proofs.Common.{◌≡◌, ℕ, zero, suc, ◌<◌, true, false, IsTrue, List, [], ◌∷◌, ◌++◌, Option, Some, None, is_some, refl, sym, ap, ◌∙◌, subst, arith}
+use Rattle.std.proofs.Common.{◌≡◌, ℕ, zero, suc, ◌<◌, true, IsTrue, List, [], ◌∷◌, ◌++◌, Option, Some, None, is_some, refl, sym, ap, ◌∙◌, subst, arith}
 use Rattle.ipe_policy.specs.declared.op.Op.{Op}
 use Rattle.ipe_policy.specs.declared.evaluation.Context.{Context}
 use Rattle.ipe_image.specs.declared.hit.Hit.{Hit}
@@ -51,10 +51,6 @@ pub slot_some : (slot : Option Slot) → is_some slot ≡ true → 0 < slot_numb
 slot_some (Some slot) e = slot.some
 slot_some None e = absurd (cc)
 
-pub slot_none : (slot : Option Slot) → is_some slot ≡ false → slot_number slot ≡ 0
-slot_none (Some slot) e = absurd (cc)
-slot_none None e = refl
-
 -- the slot that a claim found is the one that was active
 pub claim_slot : (p q : Pass) (c : Claimed) (k : IsClaim p q c) → slot_held q ≡ active_slot k.before
 claim_slot p q c k = k.held ∙ k.tells.slot
@@ -96,30 +92,6 @@ ruling_told p q c k hit =
 same_place : (p q : Pass) (c : Claimed) (k : IsClaim p q c) →
     places_of p.number (seen q) ≡ (epoch_of k.before, count_of k.before) ∷ places_of p.number (seen p)
 same_place p q c k = k.places ∙ (λ i. (k.tells.epoch i, k.tells.count i) ∷ places_of p.number (seen p))
-
--- a hook where no slot was active
-pub hooked_none : (p q : Pass) (c : Claimed) (op : Op) (context : Context) (ruling : Ruling) → IsClaim p q c
-    → slot_number c.slot ≡ 0 → ruling ≡ ruling_on c.epoch c.count c.enforce c.success None
-    → IsHook p q op context ruling
-hooked_none p q c op context ruling k none is =
-    let active : active_slot k.before ≡ 0 = sym k.tells.slot ∙ none in
-    let hit_is : ruling.hit ≡ None = ap (λ (r : Ruling). r.hit) is in
-    record {
-      before = k.before;
-      later = k.step.later;
-      legal = k.step.legal;
-      gate = k.step.gate;
-      number = k.step.number;
-      claim = ([], k.step.seen_is);
-      mine_is = k.step.mine_is ∙ (λ i. hook_events p.number (sym active i) ++ mine p);
-      held = k.held ∙ none;
-      calls = k.calls;
-      places = same_place p q c k;
-      ruling_is = is ∙ ruling_told p q c k None
-          ∙ (λ i. ruling_on (epoch_of k.before) (count_of k.before) (enforce_of k.before) (success_of k.before)
-          (sym hit_is i));
-      decision = subst (λ z. IsDecision z k.before op context ruling.hit) (sym active) hit_is;
-    }
 
 -- a hook where a slot was active: its claim, and then its return
 pub hooked_some : (p m q : Pass) (c : Claimed) (op : Op) (context : Context) (hit : Hit) (ruling : Ruling)
