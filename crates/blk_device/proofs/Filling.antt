@@ -14,7 +14,7 @@ pub record FilledTo (told : Option Contents) (name : List ℕ) (at : ℕ) (buffe
   pub within : done ≤ length buffer
   pub held : 0 < done → OnDevice told name (λ all. take done (drop at all) ≡ take done buffer)
 
--- what was read stands behind what was there
+-- what was read stands after what was there
 joined : (before tail after : List ℕ) (done n : ℕ) → done ≤ length before → length after ≡ done + length tail →
     take (done + length tail) after ≡ take done before ++ tail → take (done + n) after ≡ take done before ++ take n tail
 joined before tail after done n within long parts =

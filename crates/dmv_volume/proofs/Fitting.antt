@@ -58,7 +58,7 @@ each words (suc count) k fit some within = elim (cases_eq k (suc count)) [
   | inr other ↦ each words count k fit.0 some (omega arith)
 ]
 
--- behind the last word no word meets its rule
+-- after the last word no word meets its rule
 none_behind : (words : List (List ℕ)) (count : ℕ) → length words ≡ count → IsTrue (may_end count) →
     WordFits words (suc count) → ⊥
 none_behind words count long end fits =

@@ -70,7 +70,7 @@ impl Model for Table {
 }
 
 impl Table {
-    /// Reads the part of a table line that stands behind the target's name. Its words are separated by one blank:
+    /// Reads the part of a table line that stands after the target's name. Its words are separated by one blank:
     /// `1 DEV HASHDEV DATABS HASHBS NBLOCKS HASHSTART sha256 ROOT SALT`, and then nothing or
     /// `2 root_hash_sig_key_desc WORD`.
     pub fn read(alloc: Global, line: &[u8]) -> Result<Table, TableError>

@@ -7,7 +7,7 @@ use Rattle.hash_tree.specs.Tree.{filled}
 use Rattle.fsv_tree.specs.Descriptor.{DescriptorParts, spelling, zeros}
 use Rattle.fsv_tree.proofs.Zeros.{length-zeros, zeros-append, drop-zeros, filled_is, zeros_are}
 
--- the next row, behind a gap that stays zeros
+-- the next row, after a gap that stays zeros
 next_row : (done bytes row : List ℕ) (gap k m n a : ℕ) → bytes ≡ done ++ zeros n → length done + gap ≡ a →
     length row ≡ k → n ≡ gap + (k + m) → put_mid a k bytes row ≡ (done ++ (zeros gap ++ row)) ++ zeros m
 next_row done bytes row gap k m n a is place size room =

@@ -38,7 +38,7 @@ pub filled_is : (size : ℕ) (bytes : List ℕ) → filled size bytes ≡ bytes 
 unfolding filled zeros
 filled_is size bytes = refl
 
--- behind the bytes that are filled up there are zeros
+-- after the bytes that are filled up there are zeros
 pub get_or-filled : (size : ℕ) (bytes : List ℕ) (i : ℕ) → length bytes ≤ i → get_or (filled size bytes) i 0 ≡ 0
 get_or-filled size bytes i past =
     ap (λ xs. get_or xs i 0) (filled_is size bytes)

@@ -47,9 +47,9 @@ breaks bytes size place =
     else if nat_lt place 16 then false
     -- root, of an empty file zeros
     else if nat_lt place 48 then ((size == 0) && not (byte == 0))
-    -- zeros behind the root
+    -- zeros after the root
     else if nat_lt place 80 then not (byte == 0)
-    -- salt, and zeros behind it
+    -- salt, and zeros after it
     else if nat_lt place 112 then (nat_le (slice_index_or bytes 3 0) (place - 80) && not (byte == 0))
     -- zeros
     else not (byte == 0)

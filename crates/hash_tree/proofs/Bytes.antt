@@ -83,7 +83,7 @@ length-data_blocks size bytes = length-map (chunks size bytes) (filled size) ∙
 pub record Hashing (hash : Hash) (size : ℕ) (salt level done rest : List ℕ) : Type 0 where
   pub hashed : done ++ concat (map (salted hash salt) (data_blocks size rest)) ≡ concat (map (salted hash salt) (data_blocks size level))
 
--- the first chunk of bytes, and what is behind it
+-- the first chunk of bytes, and what is after it
 only_chunk : (size : ℕ) (block others : List ℕ) → length others ≡ 0 → length block < size →
     (take size (block ++ others) ≡ block) × (drop size (block ++ others) ≡ others)
 only_chunk size block [] none below =

@@ -137,7 +137,7 @@ digest_over hash size salt blocks j positive within over =
 same_rest : (a b c d size : ℕ) → c ≡ a + size → size + b ≡ d → a - b ≡ c - d
 same_rest a b c d size first second = omega arith
 
--- a full group and the groups behind it
+-- a full group and the groups after it
 full_group : (hash : Hash) (size : ℕ) (digests behind : List (List ℕ)) (others : List ℕ) → 0 < fan_out hash size →
     fan_out hash size * hash.size ≡ size →
     All (λ digest. length digest ≡ hash.size) digests → fan_out hash size < length digests → behind ≡ drop (fan_out hash size) digests →

@@ -4,7 +4,7 @@ use Rattle.std.specs.List.{concat}
 use Rattle.hash_tree.specs.Chunks.{chunks}
 use Rattle.hash_tree.specs.Hash.{Hash}
 
--- the digest of a block behind its salt
+-- the digest of a block after its salt
 abbrev pub salted : Hash → List ℕ → List ℕ → List ℕ
 salted hash salt block = hash.digest (salt ++ block)
 

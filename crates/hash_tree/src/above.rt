@@ -94,7 +94,7 @@ fn hash_level(
     Ok(above)
 }
 
-// The digest of a block behind its salt. Only a short block is copied, and filled.
+// The digest of a block after its salt. Only a short block is copied, and filled.
 fn filled_digest(
     alloc: Global,
     salt: &[u8],

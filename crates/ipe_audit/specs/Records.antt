@@ -14,7 +14,7 @@ use Rattle.ipe_policy.specs.declared.request.Object.TheVariants.{NoFile, File}
 use Rattle.ipe_policy.specs.Spelling.{bit_text, op_word, statement_text, version_text}
 use Rattle.ipe_audit.specs.declared.records.Brief.{Brief}
 
--- a policy's name, version and digest, each behind these bytes
+-- a policy's name, version and digest, each after these bytes
 abbrev pub told : List ℕ → List ℕ → List ℕ → Brief → List ℕ
 told name version digest policy =
     name ++ policy.name ++ version ++ version_text policy.version ++ digest ++ encode_lower policy.digest

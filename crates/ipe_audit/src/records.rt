@@ -20,7 +20,7 @@ struct Keys {
     digest: &'static [u8],
 }
 
-// A policy's name, version and digest, each behind its key.
+// A policy's name, version and digest, each after its key.
 fn append_policy(
     alloc: Global,
     line: &mut Vec<u8>,

@@ -33,7 +33,7 @@ word_of-sum (a ∷ b ∷ c ∷ d ∷ e ∷ f ∷ g ∷ []) few = omega arith
 word_of-sum (a ∷ b ∷ c ∷ d ∷ e ∷ f ∷ g ∷ h ∷ []) few = omega arith
 word_of-sum (a ∷ b ∷ c ∷ d ∷ e ∷ f ∷ g ∷ h ∷ i ∷ more) few = absurd (omega arith)
 
--- the word of eight bytes that begin with these and have zeros behind them
+-- the word of eight bytes that begin with these and have zeros after them
 pub word-filled : (bytes filled : List ℕ) → length bytes ≤ 8 → ((i : ℕ) → i < 8
     → get_or filled i 0 ≡ get_or bytes i 0) → from_le_bytes w64 filled ≡ word_of bytes
 word-filled bytes filled few same =
@@ -77,7 +77,7 @@ unfolding word_bytes
 length-word_bytes zero word = refl
 length-word_bytes (suc count) word = ap suc (length-word_bytes count (word / 256))
 
--- zeros behind bytes make no other word
+-- zeros after bytes make no other word
 pub word-copied : (bytes front : List ℕ) → length bytes ≤ 8 → front ≡ bytes
     → from_le_bytes w64 (front ++ drop (length bytes) (replicate 8 0)) ≡ word_of bytes
 word-copied bytes front few same =

@@ -72,7 +72,7 @@ next-words bytes some =
     omega (arith, length-drop 8 bytes) in
     ap (λ (count : ℕ). words_of count bytes) one_more
 
--- the first word is put behind others
+-- the first word is put after others
 pub next-bytes : (words rest : List ℕ) (n : ℕ) → n ≡ min (length rest) 8 → 0 < length rest
     → (words ++ word_of (take n rest) ∷ []) ++ byte_words (drop n rest) ≡ words ++ byte_words rest
 next-bytes words rest n few some =

@@ -1,4 +1,4 @@
--- The records of an image, one behind the other.
+-- The records of an image, one after the other.
 use Rattle.std.proofs.Common.{◌≡◌, ◌∙◌, ℕ, ◌+◌, ◌-◌, ◌^◌, ◌<◌, ◌≤◌, true, false, cond, Bool, List, [], ◌∷◌, ◌++◌, length, sum_by, get_or, take, drop, Some, None, refl, ap, sym, arith, append_assoc, length-append, length-drop}
 use Rattle.std.specs.List.{list_all, find, enumerate_from}
 use Rattle.std.proofs.lemmas.Bool.{and_parts}
@@ -28,7 +28,7 @@ pub record AtRule (words : List ℕ) (parts : ImageParts) (op : Op) (context : C
   pub same : find (matches op context) (enumerate_from number left) ≡ first_match_in parts op context
   pub total : at + sum_by rule_words left ≡ words_used parts
 
--- the first record stands behind the first 25 words
+-- the first record stands after the first 25 words
 pub at-first : (words : List ℕ) (parts : ImageParts) (op : Op) (context : Context) (behind : List ℕ)
     → Complete parts → Places words parts behind → AtRule words parts op context 25 1
 at-first words parts op context behind complete p =

@@ -215,7 +215,7 @@ image-back parts more complete =
     (Some told) None) o) (decoded-back parts more (complete-facts parts complete))
     ∙ ap (λ (b : Bool). cond b (Some parts) None) both
 
--- what words tell they tell with more words behind them
+-- what words tell they tell with more words after them
 pub image-more : (words more : List ℕ) (parts : ImageParts) → image_in words ≡ Some parts
     → image_in (words ++ more) ≡ Some parts
 image-more words more parts told =

@@ -11,7 +11,7 @@ use Rattle.ipe_image.specs.Reading.{fits_property}
 use Rattle.ipe_image.specs.Heads.{AreProperties, BeginsWithProperty}
 use Rattle.ipe_image.proofs.Bytes.{length-words_of}
 
--- the words of an algorithm's name, of a digest, and what stands behind
+-- the words of an algorithm's name, of a digest, and what stands after
 pub record Parted (words : List ℕ) (property : Property) (behind : List ℕ) : Type 0 where
   pub some : 1 ≤ length words
   pub head : get_or words 0 0 ≡ property_head property
@@ -44,7 +44,7 @@ parted words property behind h =
       total = omega arith;
     }
 
--- where words are split into those of a name, of a digest and what stands behind
+-- where words are split into those of a name, of a digest and what stands after
 pub record Split (first second third alg digest behind : List ℕ) : Type 0 where
   pub alg_is : first ≡ alg
   pub digest_is : second ≡ digest

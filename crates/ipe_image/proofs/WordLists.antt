@@ -30,7 +30,7 @@ pub at-filled : (count : ℕ) (words : List ℕ) (i : ℕ) → get_or (filled co
 unfolding filled
 at-filled count words i = at-append words (count - length words) i
 
--- a place of words with zeros behind them
+-- a place of words with zeros after them
 pub at-zeros : (words zeros : List ℕ) (i : ℕ) → ((k : ℕ) → get_or zeros k 0 ≡ 0)
     → get_or (words ++ zeros) i 0 ≡ get_or words i 0
 at-zeros [] zeros i none = none i

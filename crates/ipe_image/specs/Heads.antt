@@ -54,19 +54,19 @@ told_of_property property = record {
   digest_len = length (named_digest property).bytes;
 }
 
--- words begin with the image of a property, and these stand behind it
+-- words begin with the image of a property, and these stand after it
 pub record BeginsWithProperty (words : List ℕ) (property : Property) (behind : List ℕ) : Type 0 where
   pub fits : IsTrue (fits_property property)
   pub whole : words ≡ property_image property ++ behind
 
--- what a head tells, and the words behind it, are a property's
+-- what a head tells, and the words after it, are a property's
 pub record IsWordsOf (head : PropertyHead) (alg digest : List ℕ) (property : Property) : Type 0 where
   pub fits : IsTrue (fits_property property)
   pub head_is : head ≡ told_of_property property
   pub alg_is : alg ≡ byte_words (named_digest property).alg
   pub digest_is : digest ≡ byte_words (named_digest property).bytes
 
--- words are the images of these properties, one behind the other
+-- words are the images of these properties, one after the other
 pub record AreProperties (words : List ℕ) (properties : List Property) : Type 0 where
   pub fit : IsTrue (list_all fits_property properties)
   pub whole : words ≡ flat_map property_image properties

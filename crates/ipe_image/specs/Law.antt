@@ -17,7 +17,7 @@ pub record HasImage (items : List Statement) : Type 0 where
   pub policy : IsPolicy items
   pub few : words_of_image items ≤ 4096
 
--- words that begin with a policy's image tell what it was made of, whatever stands behind it
+-- words that begin with a policy's image tell what it was made of, whatever stands after it
 abbrev pub ReadAsThemselves : Type 0
 ReadAsThemselves =
     (items : List Statement) (serial : ℕ) (behind : List ℕ) → HasImage items

@@ -28,7 +28,7 @@ kind_read kind wanted digest =
     else (if kind == 3 then Some (DmverityRoothash digest)
     else (if kind == 4 then Some (FsverityDigest digest) else None))))
 
--- the digest behind a property's head
+-- the digest after a property's head
 abbrev pub digest_read : ℕ → List ℕ → Digest
 digest_read head words = record {
   alg = bytes_in (head / 2 ^ 16 % 256) words;
@@ -41,7 +41,7 @@ property_read words =
     let head = slice_index words 0 in
     kind_read (head % 256) (head / 256 % 256 == 1) (digest_read head (drop 1 words))
 
--- so many properties, one behind the other
+-- so many properties, one after the other
 abbrev pub properties_read : ℕ → List ℕ → Option (List Property)
 properties_read zero words = Some []
 properties_read (suc count) words =
@@ -59,7 +59,7 @@ rule_read words =
     (default_read (head / 2 ^ 40 % 256)))
     (slice_get operations (head / 2 ^ 32 % 256))
 
--- so many rules, one behind the other
+-- so many rules, one after the other
 abbrev pub rules_read : ℕ → List ℕ → Option (List RuleParts)
 rules_read zero words = Some []
 rules_read (suc count) words =

@@ -79,7 +79,7 @@ fn default_word(default: Option<Action>) -> u64
     }
 }
 
-// Puts the default of each operation behind the words, in their order.
+// Puts the default of each operation after the words, in their order.
 fn append_defaults(image: &mut Vec<u64>, items: &[Statement]) -> Result<(), AllocError>
     ensures { OnOk result (image.new.items ≡ image.old.items
         ++ map (λ op. default_word (slice_get (op_defaults op items.now) 0)) operations) }
@@ -90,7 +90,7 @@ fn append_defaults(image: &mut Vec<u64>, items: &[Statement]) -> Result<(), Allo
     Ok(())
 }
 
-// Puts the words before the records behind the words.
+// Puts the words before the records after the words.
 fn append_head(
     image: &mut Vec<u64>,
     items: &[Statement],

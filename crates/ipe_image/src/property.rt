@@ -17,7 +17,7 @@ pub(crate) struct PropertyWords<'a> {
     pub digest: &'a [u64],
 }
 
-/// The property with which words begin, and the words behind it.
+/// The property with which words begin, and the words after it.
 pub(crate) fn first_property(words: &[u64]) -> (PropertyWords<'_>, &[u64])
     requires { (property : Property) × (behind : List ℕ) × BeginsWithProperty words.now property behind }
     ensures property { (property : Property) (behind : List ℕ) → BeginsWithProperty words.now property behind →

@@ -22,7 +22,7 @@ pub trait WordReader {
         ensures whole { length (words self.old) ≡ 4096 };
 }
 
-/// A reader over words in memory, with zeros behind them up to 4,096.
+/// A reader over words in memory, with zeros after them up to 4,096.
 #[derive(Debug, Drop)]
 pub struct SliceReader<'a> {
     words: &'a [u64],

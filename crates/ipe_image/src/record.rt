@@ -16,7 +16,7 @@ use std::alloc::AllocError;
 // The words of a rule's properties: at most 16 properties of 11 words each.
 type RuleWords = ArrayVec<u64, 176>;
 
-// Puts bytes behind the words, in whole words.
+// Puts bytes after the words, in whole words.
 fn append_bytes(words: &mut RuleWords, bytes: &[u8])
     requires { array_vec_len words.old + words_for (length bytes.now) ≤ 176 }
     ensures words { words.new.items ≡ words.old.items ++ byte_words bytes.now }
@@ -116,7 +116,7 @@ fn append_rule(
     image.extend_from_slice(words.as_slice())
 }
 
-/// Puts the records of the rules behind the words of an image.
+/// Puts the records of the rules after the words of an image.
 pub(crate) fn append_records(image: &mut Vec<u64>, items: &[Statement]) -> Result<(), AllocError>
     requires { length items.now ≤ 1048576 }
     ensures { OnOk result (image.new.items ≡ image.old.items ++ records 1 (filter_map rule_of items.now)) }

@@ -93,7 +93,7 @@ fn append_properties(alloc: Global, text: &mut Vec<u8>, words: &[u64]) -> Result
     Ok(())
 }
 
-// The text of a rule, of whose record these are the words behind the head.
+// The text of a rule, of whose record these are the words after the head.
 fn rule_line(alloc: Global, op: Op, action: Action, words: &[u64]) -> Result<Vec<u8>, AllocError>
     requires { (properties : List Property) × AreProperties words.now properties }
     ensures { (properties : List Property) → AreProperties words.now properties →

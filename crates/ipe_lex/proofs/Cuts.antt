@@ -45,7 +45,7 @@ lines_of-first byte [] =
 lines_of-first byte (next ∷ bytes) =
     ⊎_elim (λ e. rw e) (λ e. line_goes_on byte (next ∷ bytes) e (rw (lines_of-first next bytes))) (either (is_line_feed byte))
 
--- a line feed stands behind the first line, or no line does
+-- a line feed stands after the first line, or no line does
 pub record ByLineFeed (text : List ℕ) : Type 0 where
   pub taken : length text - length (after_first is_line_feed text) ≡ length (before_first is_line_feed text) + 1
   pub place : length (before_first is_line_feed text) ≡ position_or_len is_line_feed text
@@ -158,7 +158,7 @@ position-none p xs e =
       | inr beyond ↦ beyond
     ]
 
--- a token behind some separators, and what stands behind it
+-- a token after some separators, and what stands after it
 pub record NextToken (start : ℕ) (bytes : List ℕ) (skipped : ℕ) (token after : List ℕ) : Type 0 where
   pub step : placed_tokens start bytes ≡ record { start = start + skipped; bytes = token } ∷ placed_tokens (start + skipped + length token) after
   pub not_empty : 0 < length token

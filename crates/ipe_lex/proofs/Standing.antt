@@ -17,7 +17,7 @@ take_own zero xs = refl
 take_own (suc n) [] = refl
 take_own (suc n) (x ∷ xs) = ap (λ (r : List _). x ∷ r) (take_own n xs)
 
--- what is taken of a front behind some elements is taken of the whole
+-- what is taken of a front after some elements is taken of the whole
 take-drop-take : (m at n : ℕ) (xs : List ℕ) → at + m ≤ n → take m (drop at (take n xs)) ≡ take m (drop at xs)
 take-drop-take m zero n xs room = take-take m n xs (omega (arith, room))
 take-drop-take m (suc at) zero xs room = absurd (omega arith)

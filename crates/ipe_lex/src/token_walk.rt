@@ -43,7 +43,7 @@ fn token_length(bytes: &[u8]) -> usize
     separator_start(bytes).unwrap_or(bytes.len())
 }
 
-// The token at the front, and what stands behind it.
+// The token at the front, and what stands after it.
 fn cut_token(bytes: &[u8]) -> (&[u8], &[u8])
     ensures token { result.0.now ≡ take (position_or_len is_separator bytes.now) bytes.now }
     ensures rest { result.1.now ≡ drop (position_or_len is_separator bytes.now) bytes.now }

@@ -42,21 +42,21 @@ before-at p (x ∷ xs) y ys h e =
     let parts = and_parts (not (p x)) (list_all (λ x. not (p x)) xs) h in
     before-miss p x (xs ++ y ∷ ys) (not-true (p x) parts.0) ∙ ap (λ (r : List ℕ). x ∷ r) (before-at p xs y ys parts.1 e)
 
--- what stands behind the first byte that passes
+-- what stands after the first byte that passes
 pub after-at : (p : ℕ → Bool) (xs : List ℕ) (y : ℕ) (ys : List ℕ) → list_all (λ x. not (p x)) xs ≡ true → p y ≡ true → after_first p (xs ++ y ∷ ys) ≡ ys
 after-at p [] y ys h e = after-hit p y ys e
 after-at p (x ∷ xs) y ys h e =
     let parts = and_parts (not (p x)) (list_all (λ x. not (p x)) xs) h in
     after-miss p x (xs ++ y ∷ ys) (not-true (p x) parts.0) ∙ after-at p xs y ys parts.1 e
 
--- the line before a line feed, and the lines behind it
+-- the line before a line feed, and the lines after it
 lines-at : (line rest : List ℕ) → list_all (λ byte. not (is_line_feed byte)) line ≡ true → lines_of (line ++ 10 ∷ rest) ≡ line ∷ lines_of rest
 lines-at [] rest h = refl
 lines-at (byte ∷ line) rest h =
     let parts = and_parts (not (is_line_feed byte)) (list_all (λ b. not (is_line_feed b)) line) h in
     rw (not-true (is_line_feed byte) parts.0, lines-at line rest parts.1)
 
--- the word at the front of a line, and the tokens behind it
+-- the word at the front of a line, and the tokens after it
 tokens-word : (word rest : List ℕ) → list_all is_in_token word ≡ true → 0 < length word → goes_on rest ≡ false → tokens_of (word ++ rest) ≡ word ∷ tokens_of rest
 tokens-word [] rest h some ends = absurd (omega arith)
 tokens-word (byte ∷ []) rest h some ends =

@@ -16,7 +16,7 @@ use Rattle.ipe_parse.proofs.Bytes.{after-at, all-weaker, before-at}
 no-colon : (byte : ℕ) → is_alg_byte byte ≡ true → not (is_colon byte) ≡ true
 no-colon byte e = grind (arith, nat_tests)
 
--- a word is cut at its first colon, or nothing stands behind one
+-- a word is cut at its first colon, or nothing stands after one
 colon-cut : (word : List ℕ) → (after_first is_colon word ≡ []) ⊎ (word ≡ before_first is_colon word ++ 58 ∷ after_first is_colon word)
 colon-cut word = elim (cases_lt (position_or_len is_colon word) (length word)) [
   | inl within ↦ inr (

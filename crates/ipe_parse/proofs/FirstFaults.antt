@@ -236,7 +236,7 @@ read-free before (line ∷ lines) items e =
       rest statement e,
     )
 
--- a line with a fault behind lines without one
+-- a line with a fault after lines without one
 faulty-read : (before : List Statement) (front : List SpokenLine) (line : SpokenLine) (others : List SpokenLine)
     (items : List Statement) (kind : BadKind) → FaultFree before front items → line_fault items line.tokens ≡ Some kind
     → statements_from before (front ++ line ∷ others) ≡ Err (Bad line.number kind)
@@ -308,7 +308,7 @@ read-faulty before (line ∷ lines) fault e =
 
 -- ---- the text
 
--- the reader of the lines behind a header
+-- the reader of the lines after a header
 abbrev behind_header : Header → List SpokenLine → Result PolicyParts BadText
 behind_header header lines = statements_from [] lines >>= λ items. completed header items (first_missing items)
 

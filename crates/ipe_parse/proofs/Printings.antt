@@ -49,7 +49,7 @@ digest-plain digest h =
     all-append is_plain (digest.alg ++ codes ":") (encode_lower digest.bytes) (all-append is_plain digest.alg (codes ":") (all-weaker is_alg_byte is_plain alg-plain digest.alg (alg-bytes digest.alg h.alg)) refl)
     (all-weaker is_hex_digit is_plain hex-plain (encode_lower digest.bytes) digits)
 
--- a word behind a key
+-- a word after a key
 behind_key : (key rest : List ℕ) → list_all is_plain key ≡ true → 0 < length key → list_all is_plain rest ≡ true → IsWord (key ++ rest)
 behind_key key rest a some b = record { plain = all-append is_plain key rest a b; not_empty = omega (arith, length-append key rest) }
 
@@ -79,7 +79,7 @@ property-word (FsverityDigest digest) h = behind_key (codes "fsverity_digest=") 
 property-word (FsveritySignature true) h = record { plain = refl; not_empty = omega arith }
 property-word (FsveritySignature false) h = record { plain = refl; not_empty = omega arith }
 
--- the tokens of a rule behind its operation are words
+-- the tokens of a rule after its operation are words
 rule-words : (properties : List Property) (action : Action) → AllByRecursion IsProperty properties → AllByRecursion IsWord (map property_token properties ++ action_token action ∷ [])
 rule-words [] action h = (action-word action, tt)
 rule-words (property ∷ properties) action h = (property-word property h.0, rule-words properties action h.1)

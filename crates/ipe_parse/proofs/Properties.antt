@@ -8,7 +8,7 @@ use Rattle.ipe_parse.specs.declared.error.BadKind.{BadKind}
 use Rattle.ipe_parse.specs.Tokens.{◌>>=◌}
 use Rattle.ipe_parse.specs.Lines.{words}
 
--- what is read, behind what was read before it
+-- what is read, after what was read before it
 abbrev pub with_front : List Property → Result (List Property) BadKind → Result (List Property) BadKind
 with_front front read = read >>= λ properties. Ok (front ++ properties)
 

@@ -58,7 +58,7 @@ statements-read (line ∷ lines) before (item ∷ items) each once =
     ∙ statements-read lines (before ++ item ∷ []) items each.1 (subst IsOnce (sym whole) once)
     ∙ ap (λ (items : List Statement). Ok items) whole
 
--- what lines spell, behind statements that stand before them
+-- what lines spell, after statements that stand before them
 record Behind (before : List Statement) (lines : List SpokenLine) (items : List Statement) : Type 0 where
   more : List Statement
   whole : items ≡ before ++ more
@@ -113,7 +113,7 @@ read-keep_rules lines items e =
 
 -- ---- a whole text
 
--- what stands behind the header
+-- what stands after the header
 abbrev rest_of_reading : List SpokenLine → Header → Result PolicyParts BadText
 rest_of_reading lines header = statements_from [] lines >>= λ items. completed header items (first_missing items)
 

@@ -31,12 +31,12 @@ use Rattle.ipe_parse.proofs.SpelledProperties.{properties-read, properties-spell
 length-before : {X : Type 0} (xs : List X) (x : X) → length (xs ++ x ∷ []) - 1 ≡ length xs
 length-before xs x = omega (arith, length-append xs (x ∷ []))
 
--- the element behind a list
+-- the element after a list
 behind-is : {X : Type 0} (xs : List X) (x : X) → slice_get (xs ++ x ∷ []) (length xs) ≡ Some x
 behind-is [] x = refl
 behind-is (y ∷ xs) x = behind-is xs x
 
--- the last element is the one behind the others
+-- the last element is the one after the others
 last-is : {X : Type 0} (xs : List X) (x : X) → slice_get (xs ++ x ∷ []) (length (xs ++ x ∷ []) - 1) ≡ Some x
 last-is xs x = ap (slice_get (xs ++ x ∷ [])) (length-before xs x) ∙ behind-is xs x
 
@@ -54,7 +54,7 @@ front-and-last (y ∷ z ∷ zs) x e =
     ap (λ (rest : List _). y ∷ rest) (front-and-last (z ∷ zs) x there)
     ∙ sym (ap (λ (n : ℕ). take n (y ∷ z ∷ zs) ++ x ∷ []) later)
 
--- the action behind words is read
+-- the action after words is read
 action-read : (words : List (List ℕ)) (action : Action) → last_action (words ++ action_token action ∷ []) ≡ Some action
 action-read words action = ap (option_and_then action_named) (last-is words (action_token action)) ∙ action_named-token action
 
@@ -110,7 +110,7 @@ statement-read tokens (OpDefault op Deny) h =
 statement-read tokens (GlobalDefault Allow) h = ap statement_of h
 statement-read tokens (GlobalDefault Deny) h = ap statement_of h
 
--- a token behind the sign of operations that names one is its token
+-- a token after the sign of operations that names one is its token
 op-spelled : (token : List ℕ) (op : Op) → begins (codes "op=") token ≡ true → op_named (drop 3 token) ≡ Some op → token ≡ op_token op
 op-spelled token op begun e = begins-is (codes "op=") token begun ∙ ap (λ (word : List ℕ). codes "op=" ++ word) (op_named-is (drop 3 token) op e)
 
@@ -141,7 +141,7 @@ global_default-spelled tokens statement e =
     let whole : codes "DEFAULT" ∷ tokens ≡ codes "DEFAULT" ∷ action_token one.0 ∷ [] = ap (λ (ts : List (List ℕ)). codes "DEFAULT" ∷ ts) (lone-spelled tokens one.0 one.1) in
     subst (λ (s : Statement). SpellsStatement (codes "DEFAULT" ∷ tokens) s) (same-ok (GlobalDefault one.0) statement one.2) whole
 
--- words behind DEFAULT that are read as a statement spell it
+-- words after DEFAULT that are read as a statement spell it
 default-spelled : (others : List (List ℕ)) (statement : Statement) → default_of others ≡ Ok statement → SpellsStatement (codes "DEFAULT" ∷ others) statement
 default-spelled [] statement e = absurd (cc)
 default-spelled (second ∷ others) statement e =
@@ -215,7 +215,7 @@ parts-read b o header b_is o_is = rw (b_is, o_is)
 pub header-read : (tokens : List (List ℕ)) (header : Header) → SpellsHeader tokens header → header_of tokens ≡ Ok header
 header-read tokens header h = ap header_of h.whole ∙ parts-read _ _ header h.name h.version
 
--- a name and a version behind their keys spell a header
+-- a name and a version after their keys spell a header
 spelled-by : (first second name version_word : List ℕ) (version : Version) (header : Header) → first ≡ codes "policy_name=" ++ name → second ≡ codes "policy_version=" ++ version_word
     → is_name name ≡ true → version_of version_word ≡ Some version → ◌≡◌ {A = Header} (record { name = name; version = version }) header → SpellsHeader (first ∷ second ∷ []) header
 spelled-by first second name version_word version header first_is second_is named spelled same =

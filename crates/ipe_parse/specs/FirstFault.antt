@@ -17,7 +17,7 @@ use Rattle.ipe_parse.specs.Defaults.{first_missing, has_global_default, has_op_d
 use Rattle.ipe_parse.specs.Reading.{SpokenLine, reading, spoken_lines}
 use Rattle.ipe_parse.specs.Reads.{SpellsStatement}
 
--- a check of a line: the kind of its fault, and the test that the line's tokens pass behind the statements before it
+-- a check of a line: the kind of its fault, and the test that the line's tokens pass after the statements before it
 pub record Check : Type 0 where
   pub kind : BadKind
   pub passes : List Statement → List (List ℕ) → Bool
@@ -32,7 +32,7 @@ first_failed (check ∷ checks) before tokens =
 abbrev pub token_at : ℕ → List (List ℕ) → List ℕ
 token_at place tokens = slice_index_or tokens place []
 
--- two tokens, behind the keys of a name and of a version
+-- two tokens, after the keys of a name and of a version
 abbrev pub is_keyed : List (List ℕ) → Bool
 is_keyed [] = false
 is_keyed (name ∷ []) = false
@@ -51,7 +51,7 @@ header_row =
 abbrev pub names_op : List (List ℕ) → Bool
 names_op tokens = begins (codes "op=") (token_at 1 tokens)
 
--- the tokens of a default behind DEFAULT and behind its operation, if it names one
+-- the tokens of a default after DEFAULT and after its operation, if it names one
 abbrev pub behind_op : List (List ℕ) → List (List ℕ)
 behind_op tokens = if names_op tokens then drop 2 tokens else drop 1 tokens
 
@@ -97,7 +97,7 @@ rule_row =
 abbrev pub row_of : List (List ℕ) → List Check
 row_of tokens = if is_text (codes "DEFAULT") (token_at 0 tokens) then default_row else rule_row
 
--- the fault of a line behind the statements before it
+-- the fault of a line after the statements before it
 abbrev pub line_fault : List Statement → List (List ℕ) → Option BadKind
 line_fault before tokens = first_failed (row_of tokens) before tokens
 
@@ -119,7 +119,7 @@ pub record IsFirstFaulty (before : List Statement) (lines : List SpokenLine) (nu
   pub number_is : line.number ≡ number
   pub fails : line_fault items line.tokens ≡ Some kind
 
--- the first fault of the lines with tokens: of the header, of a line behind it, or that an operation has no default
+-- the first fault of the lines with tokens: of the header, of a line after it, or that an operation has no default
 abbrev pub FirstFault : List SpokenLine → BadText → Type 0
 FirstFault [] (Bad number kind) = (number ≡ 1) × (kind ≡ NoHeader)
 FirstFault [] (NoDefault op) = ⊥

@@ -9,12 +9,12 @@ use Rattle.ipe_parse.specs.declared.line_error.LineError.TheVariants.{Bad, NoMem
 abbrev pub words : List (Bor (List ℕ)) → List (List ℕ)
 words tokens = map (λ token. token.now) tokens
 
--- an error of a line, but for want of memory, is the kind that was read
+-- an error of a line, unless memory runs out, is the kind that was read
 abbrev pub LineFails : {Y : Type 0} → LineError → Result Y BadKind → Type 0
 LineFails (Bad kind) read = read ≡ Err kind
 LineFails NoMemory read = Unit {0}
 
--- what a function gave, seen by view, is what was read, but for want of memory
+-- what a function gave, seen by view, is what was read, unless memory runs out
 abbrev pub LineGives : {X Y : Type 0} → (X → Y) → Result X LineError → Result Y BadKind → Type 0
 LineGives view (Ok x) read = read ≡ Ok (view x)
 LineGives view (Err error) read = LineFails error read

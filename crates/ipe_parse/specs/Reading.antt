@@ -42,11 +42,11 @@ abbrev pub at_line : {A : Type 0} → ℕ → Result A BadKind → Result A BadT
 at_line number (Ok x) = Ok x
 at_line number (Err kind) = Err (Bad number kind)
 
--- the statement of a line, behind the statements of the lines before it
+-- the statement of a line, after the statements of the lines before it
 abbrev pub next_statement : List Statement → SpokenLine → Result Statement BadText
 next_statement before line = at_line line.number (not_twice before (statement_of line.tokens))
 
--- the statements of lines, behind those before them, or the first fault
+-- the statements of lines, after those before them, or the first fault
 abbrev pub statements_from : List Statement → List SpokenLine → Result (List Statement) BadText
 statements_from before [] = Ok before
 statements_from before (line ∷ lines) =
@@ -69,13 +69,13 @@ reading_of_lines (line ∷ lines) =
 unfoldable pub reading : List ℕ → Result PolicyParts BadText
 reading text = reading_of_lines (spoken_lines text)
 
--- what a function gave, seen by view, is what was read, but for want of memory
+-- what a function gave, seen by view, is what was read, unless memory runs out
 abbrev pub Gives : {X Y : Type 0} → (X → Y) → Result X ParseError → Result Y BadText → Type 0
 Gives view (Ok x) read = read ≡ Ok (view x)
 Gives view (Err (error.Bad line kind)) read = read ≡ Err (Bad line kind)
 Gives view (Err (error.NoDefault missing)) read = read ≡ Err (NoDefault missing)
 Gives view (Err error.NoMemory) read = Unit {0}
 
--- an answer of `parse` is the reading, but for want of memory
+-- an answer of `parse` is the reading, unless memory runs out
 abbrev pub IsReading : Result PolicyParts ParseError → Result PolicyParts BadText → Type 0
 IsReading result read = Gives (λ policy. policy) result read

@@ -65,7 +65,7 @@ pub record HasFault (text : List ℕ) (fault : BadText) : Type 0 where
   pub first : reading text ≡ Err fault
   pub unread : (policy : PolicyParts) → Reads text policy → ⊥
 
--- a refusal is by the text's first fault, but for want of memory
+-- a refusal is by the text's first fault, unless memory runs out
 abbrev pub Refuses : List ℕ → ParseError → Type 0
 Refuses text (error.Bad line kind) = HasFault text (Bad line kind)
 Refuses text (error.NoDefault missing) = HasFault text (NoDefault missing)

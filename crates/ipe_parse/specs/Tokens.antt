@@ -31,7 +31,7 @@ Err error >>= next = Err error
 abbrev pub begins : List ℕ → List ℕ → Bool
 begins text token = starts_with nat_eq token text
 
--- what stands behind a key in a token
+-- what stands after a key in a token
 abbrev pub behind : List ℕ → List ℕ → List ℕ
 behind key token = drop (length key) token
 
@@ -100,13 +100,13 @@ properties_of [] = Ok []
 properties_of (token ∷ tokens) =
     property_of token >>= λ property. properties_of tokens >>= λ properties. Ok (property ∷ properties)
 
--- the action of a default, which stands alone behind the words before it
+-- the action of a default, which stands alone after the words before it
 abbrev pub lone_action : List (List ℕ) → Result Action BadKind
 lone_action tokens =
     ok_or (last_action tokens) BadAction >>= λ action.
     if nat_le (length tokens) 1 then Ok action else Err PropertyInDefault
 
--- the default that stands behind the word DEFAULT
+-- the default that stands after the word DEFAULT
 abbrev pub default_of : List (List ℕ) → Result Statement BadKind
 default_of [] = Err BadAction
 default_of (second ∷ others) =
@@ -132,14 +132,14 @@ abbrev pub statement_of : List (List ℕ) → Result Statement BadKind
 statement_of [] = Err BadOp
 statement_of (first ∷ others) = if is_text (codes "DEFAULT") first then default_of others else rule_of_line first others
 
--- a name that meets its rule, and a version, each behind its key
+-- a name that meets its rule, and a version, each after its key
 abbrev pub header_parts : List ℕ → List ℕ → Result Header BadKind
 header_parts name version =
     if is_name name
     then (ok_or (version_of version) BadVersion >>= λ value. Ok (record { name = name; version = value }))
     else Err BadName
 
--- a name and a version behind their keys
+-- a name and a version after their keys
 abbrev pub header_words : List ℕ → List ℕ → Result Header BadKind
 header_words name version =
     if begins (codes "policy_name=") name && begins (codes "policy_version=") version

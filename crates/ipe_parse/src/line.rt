@@ -15,7 +15,7 @@ fn last_action(tokens: &[&[u8]]) -> Option<Action>
     action_named(tokens.last()?)
 }
 
-// The action of a default, which stands alone behind the words before it.
+// The action of a default, which stands alone after the words before it.
 fn lone_action(tokens: &[&[u8]]) -> Result<Action, BadKind>
     ensures { result ≡ lone_action (words tokens.now) }
 {
@@ -26,7 +26,7 @@ fn lone_action(tokens: &[&[u8]]) -> Result<Action, BadKind>
     Ok(action)
 }
 
-// The default that stands behind the word DEFAULT.
+// The default that stands after the word DEFAULT.
 fn default_of(tokens: &[&[u8]]) -> Result<Statement, BadKind>
     ensures { result ≡ default_of (words tokens.now) }
 {

@@ -16,7 +16,7 @@ use ipe_lex::LineWalk;
 use ipe_policy::Statement;
 use std::alloc::Global;
 
-// The statement of a line, behind the statements of the lines before it.
+// The statement of a line, after the statements of the lines before it.
 fn next_statement(alloc: Global, draft: &Draft, line: &Spoken<'_>) -> Result<Statement, ParseError>
     ensures read { Gives (λ statement. statement) result (next_statement draft.now.items.items (spoken_line line.now)) }
     ensures not_twice { IfOk result (λ statement. repeats_default draft.now.items.items statement ≡ false) }

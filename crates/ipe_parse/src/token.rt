@@ -8,7 +8,7 @@ use crate::BadKind;
 use ipe_policy::{Action, AlgName, Digest, DigestBytes, Op, Property};
 use line_words::cut_at;
 
-// What stands behind a prefix of a token.
+// What stands after a prefix of a token.
 pub(crate) fn behind<'a>(prefix: &[u8], token: &'a [u8]) -> Option<&'a [u8]>
     ensures { option_copied result
         ≡ (if begins prefix.now token.now then Some (drop (length prefix.now) token.now) else None) }

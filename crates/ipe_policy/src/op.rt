@@ -58,7 +58,7 @@ impl Op {
 }
 
 impl Action {
-    /// The word that stands for the action, as behind `action=`.
+    /// The word that stands for the action, as after `action=`.
     pub fn word(self) -> &'static str
         ensures { codes "action=" ++ result.now ≡ action_token self }
     {

@@ -17,7 +17,7 @@ use Rattle.hash_tree.proofs.StoredTrees.{bytes_down, stored_down}
 use Rattle.stored_tree.specs.Checked.{HeldTreesAreRight, failing}
 use Rattle.stored_tree.specs.Stored.{fan_of, HoldsTreeOf, IsStored, Stored, held_block, held_blocks, held_from, levels_of}
 
--- behind so many blocks, where the bytes go on with blocks of a level
+-- after so many blocks, where the bytes go on with blocks of a level
 behind : (size first more : ℕ) (bytes : List ℕ) →
     drop ((first + more) * size) bytes ≡ drop (more * size) (drop (first * size) bytes)
 behind size first more bytes =
@@ -33,7 +33,7 @@ block_held size first j level below rest bytes sizes goes_on inside =
     ∙ (ap (λ xs. take size (drop (j * size) xs)) (goes_on ∙ append_assoc (concat level) below rest)
     ∙ part_of_joined size level (below ++ rest) j sizes inside)
 
--- and what stands behind that level
+-- and what stands after that level
 level_held : (size first : ℕ) (level : List (List ℕ)) (below rest bytes : List ℕ) →
     All (λ block. length block ≡ size) level → drop (first * size) bytes ≡ (concat level ++ below) ++ rest →
     drop ((first + length level) * size) bytes ≡ below ++ rest

@@ -51,7 +51,7 @@ abbrev pub held_block : Stored → List ℕ → ℕ → List ℕ
 held_block tree bytes n = slice_chunk (drop tree.start bytes) tree.block_size n
 
 -- the hash blocks over block i of the data from a level down to the lowest, as they are held, where that level begins
--- at this block of the tree: each next lower level begins behind the one before it
+-- at this block of the tree: each next lower level begins after the one before it
 unfoldable pub held_from : Stored → List ℕ → ℕ → ℕ → ℕ → List (List ℕ)
 held_from tree bytes i first zero = []
 held_from tree bytes i first (suc k) =

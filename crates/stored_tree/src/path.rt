@@ -28,7 +28,7 @@ impl Model for BlockPath {
 
 impl BlockPath {
     // A path with room for so many blocks, at most 32, of a size in bytes, at most 4,096, and with none yet. The
-    // only error is want of memory.
+    // only error is out of memory.
     pub(crate) fn new(alloc: Global, size: usize, room: usize) -> Result<BlockPath, AllocError>
         requires some { 0 < size }
         requires size { size ≤ 4096 }

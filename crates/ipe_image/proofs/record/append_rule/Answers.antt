@@ -6,7 +6,7 @@ use Rattle.ipe_image.specs.Image.{property_image, rule_head, rule_record}
 use Rattle.ipe_image.proofs.Sizes.{length-properties}
 use Rattle.ipe_image.proofs.record.append_rule.Goals as goal
 
--- what was put behind, where memory was there
+-- what was put after, where memory was there
 on-ok : {A B : Type 0} (r : Result A B) (new all old image : List ℕ) → new ≡ (if is_ok r then all else old)
     → all ≡ image → OnOk r (new ≡ image)
 on-ok (Ok _) new all old image e same = e ∙ same

@@ -7,13 +7,13 @@ use Rattle.ipe_image.proofs.Bytes.{bytes-told}
 use Rattle.ipe_image.proofs.Sizes.{property-bounds}
 use Rattle.ipe_image.proofs.wording.append_digest.Goals as goal
 
--- what was put behind, where memory was there
+-- what was put after, where memory was there
 on-ok : {A B : Type 0} (r : Result A B) (new all old text : List ℕ) → new ≡ (if is_ok r then all else old)
     → all ≡ text → OnOk r (new ≡ text)
 on-ok (Ok _) new all old text e same = e ∙ same
 on-ok (Err _) new all old text e same = tt
 
--- four parts put behind a text one after another
+-- four parts put after a text one after another
 append-parts : (old a b c d : List ℕ) → (((old ++ a) ++ b) ++ c) ++ d ≡ old ++ (a ++ ((b ++ c) ++ d))
 append-parts old a b c d = simp append_assoc
 

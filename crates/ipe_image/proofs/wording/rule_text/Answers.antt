@@ -22,7 +22,7 @@ if-ok : {A B : Type 0} (r : Result A B) (P Q : A → Type 0) → ((x : A) → P 
 if-ok (Ok x) P Q f h = f x h
 if-ok (Err e) P Q f h = tt
 
--- the words behind the head of a rule that decided
+-- the words after the head of a rule that decided
 behind-head : (parts : ImageParts) (op : Op) (number : ℕ) (action : Action) (words slice : List ℕ)
     (h : IsRuleAnswer parts op number action words) → slice ≡ words
     → AreProperties (take (length slice - 1) (drop 1 slice)) h.rule.properties

@@ -3,7 +3,7 @@ use Rattle.std.specs.Prelude.{OnOk}
 use Rattle.ipe_policy.specs.Spelling.{header_text, version_text}
 use Rattle.ipe_policy.proofs.spelling.append_header.Goals as goal
 
--- four parts put behind a text one after another
+-- four parts put after a text one after another
 append-parts : (old a b c d : List ℕ) → (((old ++ a) ++ b) ++ c) ++ d ≡ old ++ (((a ++ b) ++ c) ++ d)
 append-parts old a b c d = simp append_assoc
 
