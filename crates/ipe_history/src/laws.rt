@@ -30,8 +30,8 @@ pub fn requests_are_in_file_order()
     ensures order { (input : List ℕ) (script : Script) → requests_of input ≡ Ok script → IsFileOrder script }
     ensures few { (input : List ℕ) (script : Script) → requests_of input ≡ Ok script →
         sum_by length script.phases ≤ length input + 1 }
-    ensures numbered { (input : List ℕ) (script : Script) → requests_of input ≡ Ok script →
-        NumbersBelow (length input + 2) script.phases }
+    ensures numbered { (input : List ℕ) (script : Script) (above : ℕ) → requests_of input ≡ Ok script →
+        length input + 2 ≤ above → NumbersBelow above script.phases }
     ensures worded { (input : List ℕ) (script : Script) → requests_of input ≡ Ok script →
         HasWords script script.phases }
 {}
