@@ -28,6 +28,6 @@ returns-in_ok-replay-in-Ok c =
       in_place = printed_laws.in_place script (read.order input script asks);
       bytes = bytes;
       spells = ap spelled bytes ∙ c.transcripts_spell_their_order.ensures.spells script (map printed script.phases)
-        (printed_laws.worded script script.phases (read.worded input script asks))
-        (printed_laws.numbered (2 ^ 32) script.phases (read.numbered input script (2 ^ 32) asks fits));
+          (printed_laws.worded script script.phases (read.worded input script asks))
+          (printed_laws.numbered (2 ^ 32) script.phases (read.numbered input script (2 ^ 32) asks fits));
     })
