@@ -318,9 +318,14 @@ fn load_marked(
     marks: &[(Purpose, Verdict)],
 ) -> Result<i32, Fail> {
     let signer = signer_of(alloc, text, marks)?;
+    load_by(rt, alloc, &signer, text)
+}
+
+// The code of a first load of this text, by what this signer says.
+fn load_by<S: Signer>(rt: &impl Abort, alloc: Global, signer: &S, text: &str) -> Result<i32, Fail> {
     let mut state = State::new(alloc, 1)?;
     let act = Act::Load(text_of(alloc, text)?);
-    Ok(answer_to(rt, alloc, &signer, &mut state, act)?.1)
+    Ok(answer_to(rt, alloc, signer, &mut state, act)?.1)
 }
 
 #[test]
@@ -341,18 +346,19 @@ fn the_last_mark_of_a_policy_decides(rt: HostRuntime) -> Result<(), Fail> {
     Ok(())
 }
 
+// The answer to a load of a text of one byte more than may be.
+fn load_too_big<S: Signer>(rt: &impl Abort, alloc: Global, signer: &S) -> Result<(u16, i32), Fail> {
+    let mut state = State::new(alloc, 1)?;
+    let act = Act::Load(Text::from_vec(vec![in alloc; b'#'; 1_048_577]?));
+    answer_to(rt, alloc, signer, &mut state, act)
+}
+
 #[test]
 fn a_text_over_the_limit_is_too_big(rt: HostRuntime) -> Result<(), Fail> {
     let alloc = rt.alloc();
-    let mut state = State::new(alloc, 1)?;
-    let act = Act::Load(Text::from_vec(vec![in alloc; b'#'; 1_048_577]?));
-    assert_eq!(rt;
-        answer_to(&rt, alloc, &TrustsAll, &mut state, act)?,
-        (0, -7)
-    );
+    assert_eq!(rt; load_too_big(&rt, alloc, &TrustsAll)?, (0, -7));
     let signer = TrustList::new(alloc, Marks::from_vec(Vec::new(alloc)))?;
-    let act = Act::Load(Text::from_vec(vec![in alloc; b'#'; 1_048_577]?));
-    assert_eq!(rt; answer_to(&rt, alloc, &signer, &mut state, act)?, (0, -7));
+    assert_eq!(rt; load_too_big(&rt, alloc, &signer)?, (0, -7));
     Ok(())
 }
 
