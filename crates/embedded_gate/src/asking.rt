@@ -7,7 +7,7 @@ use ipe_hooks::hook;
 use ipe_image::Ruling;
 use ipe_policy::{Context, Request};
 
-/// How often a thread was answered by each policy, by neither, and by the first behind an answer of the second.
+/// How often a thread was answered by each policy, by neither, and by the first after an answer of the second.
 #[derive(Clone, Copy, Debug)]
 pub struct Answers {
     pub by_first: u32,

@@ -10,7 +10,7 @@ use Rattle.ipe_gate.specs.declared.pass.Claimed.{Claimed}
 use Rattle.ipe_gate.specs.Slots.{slot_number}
 use Rattle.ipe_gate.specs.Seats.{SamePass, calls_made, gate_of, mine, seen, slot_held}
 
--- the pass made one step: its event stands behind a history that goes on from all that it had seen, and is the one
+-- the pass made one step: its event stands after a history that goes on from all that it had seen, and is the one
 -- event of its own that is new
 pub record PassSteps (e : Event) (p q : Pass) (before : List Event) : Type 0 where
   pub gate : gate_of q ≡ gate_of p

@@ -8,7 +8,7 @@ use Rattle.ipe_gate.specs.declared.administrator.GateAdmin.{GateAdmin}
 use Rattle.ipe_gate.specs.declared.administrator.Old.{Old}
 use Rattle.ipe_gate.specs.Seats.{SameRegions, admin_gate, admin_mine, admin_seen, bound_slots, passes_made}
 
--- the administrator made one step: its event stands behind a history that goes on from all that it had seen, and is the
+-- the administrator made one step: its event stands after a history that goes on from all that it had seen, and is the
 -- one event of its own that is new
 pub record AdminSteps (e : Event) (a b : GateAdmin) (before : List Event) : Type 0 where
   pub gate : admin_gate b ≡ admin_gate a

@@ -27,7 +27,7 @@ abbrev pub AllBefore : ℕ → ℕ → List (ℕ × ℕ × ℕ) → Type 0
 AllBefore epoch count [] = Unit {0}
 AllBefore epoch count (x ∷ xs) = ((x.0 < epoch) ⊎ ((x.0 ≡ epoch) × (x.1 < count))) × AllBefore epoch count xs
 
--- claims, the newest first, whose places rise: each is behind all that are older
+-- claims, the newest first, whose places rise: each is after all that are older
 abbrev pub InOrder : List (ℕ × ℕ × ℕ) → Type 0
 InOrder [] = Unit {0}
 InOrder (x ∷ xs) = AllBefore x.0 x.1 xs × InOrder xs
@@ -41,7 +41,7 @@ counts_in epoch (Claim p ∷ h) = cond (epoch == epoch_of h) (count_of h ∷ cou
 counts_in epoch (Return p ∷ h) = counts_in epoch h
 counts_in epoch (Look s ∷ h) = counts_in epoch h
 
--- numbers that fall to 0, one by one: each says how many stand behind it
+-- numbers that fall to 0, one by one: each says how many stand after it
 abbrev pub IsCountdown : List ℕ → Type 0
 IsCountdown [] = Unit {0}
 IsCountdown (n ∷ ns) = (n ≡ length ns) × IsCountdown ns

@@ -19,13 +19,13 @@ use Rattle.ipe_script.specs.Script.{Script}
 use Rattle.ipe_history.specs.Order.{after_line, after_lines, after_task, after_write, asked_by, at_the_start, context_of, object_of, verdicts_of}
 use Rattle.ipe_history.specs.Events.{claim_events, line_events, lines_events, task_events, write_events}
 
--- events behind events
+-- events after events
 after_all-append : (verdicts : Verdicts) (machine : Machine) (one two : List Event)
     → after_all verdicts machine (one ++ two) ≡ after_all verdicts (after_all verdicts machine one) two
 after_all-append verdicts machine [] two = refl
 after_all-append verdicts machine (first ∷ one) two = after_all-append verdicts (after_event verdicts machine first) one two
 
--- lines behind lines
+-- lines after lines
 after_lines-append : (script : Script) (machine : Machine) (one two : List PhaseLine)
     → after_lines script machine (one ++ two) ≡ after_lines script (after_lines script machine one) two
 after_lines-append script machine [] two = refl

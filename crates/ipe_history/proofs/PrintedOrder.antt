@@ -36,7 +36,7 @@ all_commands : (lines : List PhaseLine) → Fails is_hook lines → AllCommands 
 all_commands [] fails = tt
 all_commands (line ∷ lines) fails = (command_actor line.task fails.0, all_commands lines fails.1)
 
--- behind commands that stand first there are only hooks, from the first hook on
+-- after commands that stand first there are only hooks, from the first hook on
 hooks_behind : (commands hooks : List PhaseLine) → CommandsFirst (commands ++ hooks) → FirstPasses is_hook hooks → AllHooks hooks
 hooks_behind [] [] first passes = tt
 hooks_behind [] (line ∷ hooks) first passes = let hook = hook_actor line.task passes in (hook, first.0 hook)
@@ -95,7 +95,7 @@ placed_task script machine number (Read node) evaluated none = false≢true eval
 placed_task script machine number (Hook request subject file) evaluated none =
     placed_claim machine (evaluated_op request) (context_of file) evaluated none
 
--- hooks that aren't evaluated add no keys to those of the lines behind them
+-- hooks that aren't evaluated add no keys to those of the lines after them
 keys_behind : (script : Script) (machine : Machine) (early rest : List PhaseLine) → AllHooks early → Fails is_evaluated early
     → keys_of script machine (early ++ rest) ≡ keys_of script machine rest
 keys_behind script machine [] rest hooks idle = refl
@@ -105,7 +105,7 @@ keys_behind script machine (line ∷ early) rest hooks idle =
     ∙ ap (λ (m : Machine). keys_of script m (early ++ rest)) step.0
     ∙ keys_behind script machine early rest hooks.1 idle.1
 
--- the lines' entries stand as they must, from each machine on and behind whatever entries
+-- the lines' entries stand as they must, from each machine on and after whatever entries
 abbrev Stand : Script → List PhaseLine → Type 0
 Stand script lines = (machine : Machine) (before : List Acted) → UnplacedStand before (entries_of script machine lines)
 
@@ -113,7 +113,7 @@ Stand script lines = (machine : Machine) (before : List Acted) → UnplacedStand
 abbrev acted_of : Script → Machine → PhaseLine → Acted
 acted_of script machine line = record { line = line; reply = line_reply script machine line; before = machine.policies.epoch }
 
--- hooks' lines stand directly behind a hook's
+-- hooks' lines stand directly after a hook's
 behind_hook : (script : Script) (machine : Machine) (previous : Acted) (before : List Acted) (hooks rest : List PhaseLine) → actor_of previous.line ≡ 1 → AllHooks hooks → Stand script rest
     → UnplacedStand (previous ∷ before) (entries_of script machine (hooks ++ rest))
 behind_hook script machine previous before [] rest own all stand = stand machine (previous ∷ before)

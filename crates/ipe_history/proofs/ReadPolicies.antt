@@ -72,7 +72,7 @@ op_whole op.X509Cert = words_whole (op_word op.X509Cert) refl
 op_token_whole : (what : Op) → Whole (op_token what)
 op_token_whole what = both (codes "op=") (op_word what) (words_whole (codes "op=") refl) (op_whole what)
 
--- the tokens of a rule behind the first
+-- the tokens of a rule after the first
 rule_tokens : (properties : List Property) (action : Action) → AllByRecursion IsWholeProperty properties → AllByRecursion Whole (map property_token properties ++ action_token action ∷ [])
 rule_tokens [] action all = (action_whole action, tt)
 rule_tokens (property ∷ properties) action all = (all.0, rule_tokens properties action all.1)
@@ -210,7 +210,7 @@ not_twice_read : (before : List Statement) (r : Result Statement BadKind) → If
 not_twice_read before (Ok statement) h = ok_either IsWholeStatement (repeats_default before statement) (Err TwiceDefault) (Ok statement) tt h
 not_twice_read before (Err fault) h = tt
 
--- a statement that is read behind others
+-- a statement that is read after others
 pub next_read : (before : List Statement) (line : SpokenLine) → IfOk (next_statement before line) IsWholeStatement
 next_read before line =
     line_read IsWholeStatement line.number (not_twice before (statement_of line.tokens)) (not_twice_read before (statement_of line.tokens) (statement_read line.tokens))

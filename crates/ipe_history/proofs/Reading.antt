@@ -41,14 +41,14 @@ read_end : (most : ℕ) (ended : Bool) (script : Script) (fault : ℕ) → IsRea
 read_end most true script fault h = h
 read_end most false script fault h = tt
 
--- what is read behind one more line, where it may stand
+-- what is read after one more line, where it may stand
 read_on : (most number : ℕ) (found : Option Progress) (go_on : Progress → Result Script ℕ) (fault : ℕ) → Found (IsSound number) found
     → ((more : Progress) → IsSound number more → IfOk (go_on more) (IsReadOf most))
     → IfOk (option_map_or go_on found (Err fault)) (IsReadOf most)
 read_on most number None go_on fault sound h = tt
 read_on most number (Some more) go_on fault sound h = h more sound
 
--- what is read behind sound lines
+-- what is read after sound lines
 read_from : (most : ℕ) (progress : Progress) (number : ℕ) (pieces : List (List ℕ)) → IsSound number progress → number + length pieces ≤ most
     → IfOk (requests_from progress number pieces) (IsReadOf most)
 read_from most progress number [] sound few = tt

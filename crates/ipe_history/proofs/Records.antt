@@ -53,7 +53,7 @@ IsRecord text = Whole text × (line_spells text ≡ None)
 
 -- ---- what records tell
 
--- a policy, behind its keys
+-- a policy, after its keys
 told_whole : (name version digest : List ℕ) (policy : Brief) → Whole name → Whole version → Whole digest → Whole policy.name → Whole (told name version digest policy)
 told_whole name version digest policy first second third named =
     chain_whole name (policy.name ∷ version ∷ version_text policy.version ∷ digest ∷ encode_lower policy.digest ∷ []) first

@@ -1,4 +1,4 @@
--- The keys of commands' lines, and of hooks' lines behind them, rise.
+-- The keys of commands' lines, and of hooks' lines after them, rise.
 use Rattle.std.proofs.Common.{◌≡◌, ℕ, ◌+◌, ◌<◌, ◌⊎◌, inl, inr, List, [], ◌∷◌, ◌++◌, Option, None, refl, sym, ◌∙◌, subst, arith}
 use Rattle.std.specs.List.{cons_option, filter_map}
 use Rattle.std.proofs.lemmas.Option.{none-some}
@@ -47,7 +47,7 @@ task_hooks script machine number (Hook request subject file) hook = line_step sc
 hook_step : (script : Script) (machine : Machine) (line : PhaseLine) → actor_of line ≡ 1 → IsHookStep machine (after_line script machine line) (line_key script machine line)
 hook_step script machine line hook = task_hooks script machine line.line line.task hook
 
--- a hook's line before keys that rise behind each key that is before them
+-- a hook's line before keys that rise after each key that is before them
 hook_onto : (before after : Machine) (key : Option Key) (rank within : ℕ) (keys : List Key) → IsHookStep before after key → Counted rank within before.count
     → ((r w : ℕ) → Counted r w after.count → Rises (at after.policies.epoch r w ∷ keys))
     → Rises (at before.policies.epoch rank within ∷ cons_option key keys)
@@ -69,7 +69,7 @@ hooks_rise script machine rank within (line ∷ lines) hooks counted =
     hook_onto machine (after_line script machine line) (line_key script machine line) rank within (keys_of script (after_line script machine line) lines)
     (hook_step script machine line hooks.0) counted (λ r w. hooks_rise script (after_line script machine line) r w lines hooks.1)
 
--- a command's line before keys that rise behind each key that is before them
+-- a command's line before keys that rise after each key that is before them
 command_onto : (number : ℕ) (before after : Machine) (key : Option Key) (rank within : ℕ) (keys : List Key) → IsCommandStep number before after key → Later rank within number
     → Rises (at after.policies.epoch 1 number ∷ keys) → Rises (at after.policies.epoch 0 0 ∷ keys)
     → Rises (at before.policies.epoch rank within ∷ cons_option key keys)
@@ -87,7 +87,7 @@ abbrev LaterFirst : ℕ → ℕ → List PhaseLine → Type 0
 LaterFirst rank within [] = Unit {0}
 LaterFirst rank within (line ∷ lines) = Later rank within line.line
 
--- the lines behind a line have higher numbers
+-- the lines after a line have higher numbers
 numbers-first : (line : PhaseLine) (lines : List PhaseLine) → NumbersRise (line ∷ lines) → LaterFirst 1 line.line lines × NumbersRise lines
 numbers-first line [] rise = (tt, tt)
 numbers-first line (next ∷ lines) rise = (inr (refl, rise.0), rise.1)
@@ -108,7 +108,7 @@ task_commands script machine number (Hook request subject file) command = absurd
 command_step : (script : Script) (machine : Machine) (line : PhaseLine) → actor_of line ≡ 0 → IsCommandStep line.line machine (after_line script machine line) (line_key script machine line)
 command_step script machine line command = task_commands script machine line.line line.task command
 
--- the keys of commands' lines, and of hooks' lines behind them, rise behind each command's key of the epoch that is before them
+-- the keys of commands' lines, and of hooks' lines after them, rise after each command's key of the epoch that is before them
 commands_rise : (script : Script) (machine : Machine) (rank within : ℕ) (commands hooks : List PhaseLine) → NumbersRise commands → AllCommands commands → AllHooks hooks
     → rank < 2 → LaterFirst rank within commands
     → Rises (at machine.policies.epoch rank within ∷ keys_of script machine (commands ++ hooks))
@@ -120,7 +120,7 @@ commands_rise script machine rank within (line ∷ commands) hooks numbers all b
     (commands_rise script then 1 line.line commands hooks rest.1 all.1 behind (omega arith) rest.0)
     (commands_rise script then 0 0 commands hooks rest.1 all.1 behind (omega arith) (begins-first commands))
 
--- the keys of commands' lines, and of hooks' lines behind them, rise
+-- the keys of commands' lines, and of hooks' lines after them, rise
 pub lines_rise : (script : Script) (machine : Machine) (commands hooks : List PhaseLine) → NumbersRise commands → AllCommands commands → AllHooks hooks
     → Rises (keys_of script machine (commands ++ hooks))
 lines_rise script machine commands hooks numbers all behind =

@@ -85,7 +85,7 @@ before_stop test (byte ∷ word) stop rest lacks stops = rw (lacks.0, one-add) (
 abbrev Heads : ℕ → List ℕ → Type 0
 Heads n text = (rest : List ℕ) × (text ≡ codes "line=" ++ (decimal n ++ 32 ∷ rest))
 
--- so it is where more stands behind
+-- so it is where more stands after
 Heads-more : (n : ℕ) (one two : List ℕ) → Heads n one → Heads n (one ++ two)
 Heads-more n one two (rest, e) =
     (rest ++ two, ap (λ (text : List ℕ). text ++ two) e ∙ ap (λ (text : List ℕ). codes "line=" ++ text) (append_assoc (decimal n) (32 ∷ rest) two))
@@ -97,12 +97,12 @@ Heads-spells n text small (rest, e) =
     ∙ number_of-decimal (before_first is_blank (decimal n ++ 32 ∷ rest)) 4294967295 n (omega arith) (omega arith)
     (before_stop is_blank (decimal n) 32 rest (decimal_lacks is_blank digit_no_blank n) refl)
 
--- so it is where parts stand behind
+-- so it is where parts stand after
 Heads-chain : (n : ℕ) (text : List ℕ) (parts : List (List ℕ)) → Heads n text → Heads n (chain text parts)
 Heads-chain n text [] h = h
 Heads-chain n text (part ∷ parts) h = Heads-chain n (text ++ part) parts (Heads-more n text part h)
 
--- who acted, behind a blank
+-- who acted, after a blank
 record IsWho (who : List ℕ) : Type 0 where
   rest : List ℕ
   blank : who ≡ 32 ∷ rest
@@ -126,7 +126,7 @@ record IsEntry (n : ℕ) (text : List ℕ) : Type 0 where
 number_heads : (n : ℕ) (who : List ℕ) → IsWho who → Heads n (codes "line=" ++ decimal n ++ who)
 number_heads n who is = (is.rest, ap (λ (text : List ℕ). codes "line=" ++ decimal n ++ text) is.blank)
 
--- how each entry begins, and parts behind it
+-- how each entry begins, and parts after it
 acted_entry : (n : ℕ) (who : List ℕ) (code : ℤ) (parts : List (List ℕ)) → IsWho who → AllByRecursion Whole parts → IsEntry n (chain (acted_text n who code) parts)
 acted_entry n who code parts is all =
     let front : List ℕ = codes "line=" ++ decimal n ++ who in
@@ -189,7 +189,7 @@ access_spelled : (access : Option (List ℕ)) (rest : List ℕ) → Found IsReco
 access_spelled None rest is = refl
 access_spelled (Some text) rest is = spelled_none text rest is.0 is.1
 
--- the line of an entry, with lines behind it that spell no number
+-- the line of an entry, with lines after it that spell no number
 followed : (n : ℕ) (text behind rest : List ℕ) → n < 2 ^ 32 → IsEntry n text → spelled (behind ++ rest) ≡ spelled rest → spelled (line_text text ++ behind ++ rest) ≡ n ∷ spelled rest
 followed n text behind rest small is none =
     ap spelled (append_assoc (line_text text) behind rest) ∙ entry_spelled n text (behind ++ rest) small is ∙ ap (λ (numbers : List ℕ). n ∷ numbers) none

@@ -24,7 +24,7 @@ AreWhole items = AllByRecursion IsWholeStatement items
 abbrev pub IsWholePolicy : PolicyParts → Type 0
 IsWholePolicy policy = Whole policy.name × AreWhole policy.items
 
--- statements that are read behind others
+-- statements that are read after others
 statements_read : (before : List Statement) (lines : List SpokenLine) → AreWhole before → IfOk (statements_from before lines) AreWhole
 statements_read before [] all = all
 statements_read before (line ∷ lines) all =

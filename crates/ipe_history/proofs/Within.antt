@@ -14,7 +14,7 @@ use Rattle.ipe_policy.specs.Spelling.{version_text}
 abbrev pub Lacks : (ℕ → Bool) → List ℕ → Type 0
 Lacks test text = AllByRecursion (λ (byte : ℕ). test byte ≡ false) text
 
--- so it is for two texts, one behind the other
+-- so it is for two texts, one after the other
 Lacks-append : (test : ℕ → Bool) (one two : List ℕ) → Lacks test one → Lacks test two → Lacks test (one ++ two)
 Lacks-append test [] two h k = k
 Lacks-append test (byte ∷ one) two h k = (h.0, Lacks-append test one two h.1 k)
@@ -27,12 +27,12 @@ Whole text = Lacks is_line_feed text
 pub both : (one two : List ℕ) → Whole one → Whole two → Whole (one ++ two)
 both one two h k = Lacks-append is_line_feed one two h k
 
--- a text and parts behind it, one after another
+-- a text and parts after it, one after another
 abbrev pub chain : List ℕ → List (List ℕ) → List ℕ
 chain text [] = text
 chain text (part ∷ parts) = chain (text ++ part) parts
 
--- so it is for parts behind a text
+-- so it is for parts after a text
 pub chain_whole : (text : List ℕ) (parts : List (List ℕ)) → Whole text → AllByRecursion Whole parts → Whole (chain text parts)
 chain_whole text [] h all = h
 chain_whole text (part ∷ parts) h all = chain_whole (text ++ part) parts (both text part h all.0) all.1
@@ -86,7 +86,7 @@ words_whole (byte ∷ text) h =
     let parts = sides (is_line_feed byte) (list_all (λ byte. not (is_line_feed byte)) text) h in
     (parts.0, words_whole text parts.1)
 
--- fixed words and a part behind a text within a line
+-- fixed words and a part after a text within a line
 pub then_part : (text words part : List ℕ) → Whole text → list_all (λ byte. not (is_line_feed byte)) words ≡ true → Whole part → Whole (text ++ words ++ part)
 then_part text words part h k p = both (text ++ words) part (both text words h (words_whole words k)) p
 

@@ -130,7 +130,7 @@ after_task script machine (Write may node content) =
 after_task script machine (Read node) = machine
 after_task script machine (Hook request subject file) = after_hook (verdicts_of script) machine (evaluated_op request)
 
--- the machine behind a line
+-- the machine after a line
 abbrev pub after_line : Script → Machine → PhaseLine → Machine
 after_line script machine line = after_task script machine line.task
 
@@ -178,7 +178,7 @@ pub record Key : Type 0 where
   pub rank : ℕ
   pub within : ℕ
 
--- a claim belongs behind the commands of its epoch, by its count; without a place it belongs nowhere
+-- a claim belongs after the commands of its epoch, by its count; without a place it belongs nowhere
 abbrev pub claim_key : Option Place → Option Key
 claim_key None = None
 claim_key (Some place) = Some (record { epoch = place.epoch; rank = 2; within = place.count })
@@ -210,7 +210,7 @@ Rises [] = Unit {0}
 Rises (key ∷ []) = Unit {0}
 Rises (key ∷ next ∷ keys) = IsBefore key next × Rises (next ∷ keys)
 
--- an entry stands directly behind one of its own actor; the entries before it are given latest first
+-- an entry stands directly after one of its own actor; the entries before it are given latest first
 abbrev pub FollowsItsOwn : List Acted → Acted → Type 0
 FollowsItsOwn [] entry = ⊥
 FollowsItsOwn (previous ∷ before) entry = actor_of previous.line ≡ actor_of entry.line
@@ -220,14 +220,14 @@ abbrev pub StandsAtTheBeginning : List Acted → Acted → Type 0
 StandsAtTheBeginning before entry =
     AllByRecursion (λ (earlier : Acted). (key_of earlier ≡ None) × (actor_of earlier.line < actor_of entry.line)) before
 
--- each entry without a place stands in one of these two ways, behind those before
+-- each entry without a place stands in one of these two ways, after those before
 abbrev pub UnplacedStand : List Acted → List Acted → Type 0
 UnplacedStand before [] = Unit {0}
 UnplacedStand before (entry ∷ entries) =
     (key_of entry ≡ None → FollowsItsOwn before entry ⊎ StandsAtTheBeginning before entry)
     × UnplacedStand (entry ∷ before) entries
 
--- in each phase the entries that have a place stand in their places, and the others behind their own actor's or at the
+-- in each phase the entries that have a place stand in their places, and the others after their own actor's or at the
 -- beginning
 abbrev pub IsInPlace : Script → List (List PhaseLine) → Type 0
 IsInPlace script order =
@@ -244,7 +244,7 @@ NumbersRise (line ∷ next ∷ lines) = (line.line < next.line) × NumbersRise (
 abbrev pub AllHooks : List PhaseLine → Type 0
 AllHooks lines = AllByRecursion (λ line. actor_of line ≡ 1) lines
 
--- no command stands behind a hook
+-- no command stands after a hook
 abbrev pub CommandsFirst : List PhaseLine → Type 0
 CommandsFirst [] = Unit {0}
 CommandsFirst (line ∷ lines) = ((actor_of line ≡ 1) → AllHooks lines) × CommandsFirst lines

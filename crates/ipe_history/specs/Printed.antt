@@ -27,7 +27,7 @@ is_evaluated_task (Hook request subject file) = is_some (evaluated_op request)
 abbrev pub is_evaluated : PhaseLine → Bool
 is_evaluated line = is_evaluated_task line.task
 
--- the first element that passes a test and what stands behind it, or nothing where none does
+-- the first element that passes a test and what stands after it, or nothing where none does
 abbrev pub from_first : {X : Type 0} → (X → Bool) → List X → List X
 from_first test xs = drop (position_or_len test xs) xs
 

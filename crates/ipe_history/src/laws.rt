@@ -36,7 +36,7 @@ pub fn requests_are_in_file_order()
         HasWords script script.phases }
 {}
 
-/// A transcript spells its own order: the numbers behind `line=`, line after line, are those of the order's lines, one
+/// A transcript spells its own order: the numbers after `line=`, line after line, are those of the order's lines, one
 /// after another. So it is where the words of the request file meet their rules, as they do in each that is read.
 pub fn transcripts_spell_their_order()
     ensures spells { (script : Script) (order : List (List PhaseLine)) → HasWords script order →

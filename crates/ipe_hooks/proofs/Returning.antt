@@ -1,4 +1,4 @@
--- What is known of a pass after its claim, and after its return behind a decision.
+-- What is known of a pass after its claim, and after its return after a decision.
 use Rattle.std.proofs.Common.{◌≡◌, ℕ, zero, suc, ◌<◌, true, IsTrue, List, [], ◌∷◌, ◌++◌, Option, Some, None, is_some, refl, sym, ap, ◌∙◌, subst, arith}
 use Rattle.ipe_policy.specs.declared.op.Op.{Op}
 use Rattle.ipe_policy.specs.declared.evaluation.Context.{Context}
@@ -26,7 +26,7 @@ use Rattle.ipe_gate.specs.Claims.{IsClaim, IsReturn}
 use Rattle.ipe_hooks.specs.Rulings.{ruling_on}
 use Rattle.ipe_hooks.specs.Hooks.{IsDecision, IsHook, hook_events}
 
--- a return behind calls that left the pass as it was
+-- a return after calls that left the pass as it was
 pub return_after : (p m q : Pass) → who_reads m ≡ who_reads p → IsReturn m q → IsReturn p q
 return_after p m q k r = record {
   before = r.before;

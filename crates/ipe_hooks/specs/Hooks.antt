@@ -35,7 +35,7 @@ abbrev pub hook_events : ℕ → ℕ → List Event
 hook_events p zero = Claim p ∷ []
 hook_events p (suc k) = Return p ∷ Claim p ∷ []
 
--- a hook on a request that is evaluated made one claim, behind all that the pass had seen, and returned what it claimed;
+-- a hook on a request that is evaluated made one claim, after all that the pass had seen, and returned what it claimed;
 -- its ruling is by the state just before its claim, and by the image in the slot that was active there
 pub record IsHook (p q : Pass) (op : Op) (context : Context) (ruling : Ruling) : Type 0 where
   pub before : List Event

@@ -17,7 +17,7 @@ pub either_way : (test : Bool) (early : Done) (rest : Result Done Refusal) (did 
 either_way true early rest did is = inl cc
 either_way false early rest did is = inr is
 
--- what some first cases that only refuse let pass goes on to the cases behind them
+-- what some first cases that only refuse let pass goes on to the cases after them
 pub passed_by : (cases more : List Case) (one done : Done) → AllByRecursion (λ (case : Case). IsErr case.1) cases → answer_by cases one ≡ Ok one → answer_by (cases ++ more) done ≡ answer_by more done
 passed_by [] more one done refuse is = refl
 passed_by (case ∷ cases) more one done refuse is = go (passed_by cases more one done refuse.1) case.0 case.1 refuse.0 is

@@ -26,7 +26,7 @@ errno_of EpochFull = errno.TheVariants.Overflow
 errno_of BadValue = errno.TheVariants.Inval
 errno_of IsActive = errno.TheVariants.Perm
 
--- the bytes are one of these words, with or without one line feed behind it
+-- the bytes are one of these words, with or without one line feed after it
 abbrev pub is_one_of : List (List ℕ) → List ℕ → Bool
 is_one_of words bytes = list_any (λ word. is_text word bytes || is_text (word ++ 10 ∷ []) bytes) words
 

@@ -16,7 +16,7 @@ pub enum Value {
 }
 
 impl Value {
-    /// `1`, `y`, `Y` and `on` are true, `0`, `n`, `N` and `off` false, each with at most one line feed behind it.
+    /// `1`, `y`, `Y` and `on` are true, `0`, `n`, `N` and `off` false, each with at most one line feed after it.
     pub fn read(bytes: &[u8]) -> Value
         ensures { result ≡ value_of bytes.now }
     {

@@ -34,7 +34,7 @@ leaf_of word =
 abbrev pub is_slash : ℕ → Bool
 is_slash = is_byte 47
 
--- the node of NAME/LEAF: the name stands before the first slash, the file's word behind it
+-- the node of NAME/LEAF: the name stands before the first slash, the file's word after it
 abbrev pub policy_node : List ℕ → Option Node
 policy_node rest =
     if is_name (before_first is_slash rest)

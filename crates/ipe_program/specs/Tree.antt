@@ -28,7 +28,7 @@ shape_text above hash_blocks =
 abbrev pub root_line : List ℕ → ℕ → ℕ → List ℕ
 root_line digest above hash_blocks = codes "sha256:" ++ encode_lower digest ++ shape_text above hash_blocks
 
--- the root over an image cut into blocks, each hashed behind the salt, and the shape of the tree over so many blocks
+-- the root over an image cut into blocks, each hashed after the salt, and the shape of the tree over so many blocks
 abbrev pub root_text : ImageTree → List ℕ → List ℕ
 root_text tree bytes =
     root_line (root sha256_hash tree.block_size tree.salt (chunks tree.block_size bytes))

@@ -2,7 +2,7 @@ use ipe_words::Status;
 use std::env;
 use std::io::{self, ErrorKind};
 
-/// The arguments of the process behind the program's own name. One that isn't UTF-8 is wrong usage.
+/// The arguments of the process after the program's own name. One that isn't UTF-8 is wrong usage.
 pub fn arguments(rt: &HostRuntime) -> Result<Vec<String>, Status> {
     match read_arguments(rt) {
         Ok(words) => Ok(words),

@@ -31,7 +31,7 @@ brief_of entry = record { name = entry.name; version = entry.version; digest = s
 abbrev pub activation_of : Policies → state.Loaded → List ℕ
 activation_of policies entry = activation_text (option_map brief_of (active_entry policies)) (brief_of entry)
 
--- the records of a change: a load's; an update's, and behind it a change of the active policy where it is that one; an
+-- the records of a change: a load's; an update's, and after it a change of the active policy where it is that one; an
 -- activation's; a change of enforce
 abbrev pub change_records : Policies → Change → List (List ℕ)
 change_records policies (Loads entry) = load_text (brief_of entry) ∷ []

@@ -30,7 +30,7 @@ use Rattle.ipe_registry.specs.Parts.{IsPlanOf, text_answer, addition_answer, rep
 permitted : (verdicts : Verdicts) (policies : Policies) (command : Command) → command.may ≡ true → answer verdicts policies command ≡ act_answer verdicts policies command.act
 permitted verdicts policies command may = ap (λ (m : Bool). cond {A = Result Done Refusal} (not m) (Err NotPermitted) (act_answer verdicts policies command.act)) may
 
--- the cases of a load behind those of its text
+-- the cases of a load after those of its text
 abbrev room : Policies → PolicyParts → List Case
 room policies policy =
     (is_some (entry_named policy.name policies.loaded), Err Exists) ∷ (nat_le most_loaded (length policies.loaded), Err NoSpace) ∷ []
@@ -41,7 +41,7 @@ load_taken verdicts policies text policy taken read =
     passed_by (text_cases verdicts text) (room policies (policy_in text)) Loaded Loaded (refl, (refl, (refl, (refl, (refl, tt))))) taken
     ∙ ap (λ (r : Result PolicyParts BadText). addition_answer policies (unwrap_or (result_ok r) no_policy)) read
 
--- the cases of an update behind those of its text
+-- the cases of an update after those of its text
 abbrev behind : Policies → List ℕ → Version → PolicyParts → List Case
 behind policies name present policy =
     (not (is_text name policy.name), Err OtherName) ∷ stale_case present policy.version ∷ (is_active name policies && (policies.epoch == last_epoch), Err EpochFull) ∷ []

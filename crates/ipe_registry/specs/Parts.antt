@@ -1,4 +1,4 @@
--- The parts of a plan: what a text brings, the answers behind it, and which plan fits an answer.
+-- The parts of a plan: what a text brings, the answers after it, and which plan fits an answer.
 use Rattle.std.specs.Prelude.{false, ◌≡◌, ◌≤◌, ◌==◌, ◌&&◌, ℕ, not, nat_le, List, [], ◌∷◌, is_some, Result, Ok, Err, length}
 use Rattle.sha2.specs.Sha256.{sha256}
 use Rattle.line_words.specs.Words.{is_text}

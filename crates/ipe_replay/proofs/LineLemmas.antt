@@ -39,7 +39,7 @@ phases_text-drop script number m phases i x lt is =
     at_drop_more (λ (rest : List (List PhaseLine)). phases_text script number m (map printed rest)) phases i x lt
     ∙ ap (λ (y : List PhaseLine). phases_text script number m (map printed (y ∷ drop (i + 1) phases))) (sym is)
 
--- lines behind lines: what is printed
+-- lines after lines: what is printed
 pub lines_text-append : (script : Script) (m : Machine) (one two : List PhaseLine)
     → lines_text script m (one ++ two) ≡ lines_text script m one ++ lines_text script (after_lines script m one) two
 lines_text-append script m [] two = refl

@@ -120,7 +120,7 @@ room-after_lines script m (line ∷ lines) n room =
     (room-after_line script m line (length lines + n)
     (room-fewer m (suc (length lines + n)) (suc (length lines) + n) (omega arith) room))
 
--- room for three parts is room for each, behind those before it
+-- room for three parts is room for each, after those before it
 pub room-parts : (script : Script) (m : Machine) (early commands late : List PhaseLine) (n : ℕ)
     → length early + length commands + length late ≡ n → HasRoom m n
     → HasRoom (after_lines script m early) (length commands)

@@ -137,7 +137,7 @@ fn transcript_of(replay: &Replay<'_>) -> Result<Vec<u8>, AllocError>
 }
 
 /// The transcript of the file's lines: in each phase the hooks before the first that is evaluated, the administrator's
-/// lines, and the other hooks. The records that a line makes stand behind its entry. Where the lines of each phase are in
+/// lines, and the other hooks. The records that a line makes stand after its entry. Where the lines of each phase are in
 /// the order of the file, this is an order that keeps each one's lines in that one's order and has each entry in its place.
 pub fn replay(alloc: Global, requests: &Requests) -> Result<Vec<u8>, AllocError>
     requires { sum_by length requests.now.phases < 2 ^ 32 }

@@ -61,7 +61,7 @@ apart-never (By rule ∷ row) (By given ∷ other) (word ∷ words) e one two =
     apart-never row other words e (and_parts (may_be rule word) (has_form row words) one).1
     (and_parts (may_be given word) (has_form other words) two).1
 
--- each shape is apart from those behind it
+-- each shape is apart from those after it
 abbrev pub apart_from : Shape → List Shape → Bool
 apart_from one [] = true
 apart_from one (other ∷ shapes) = apart (cells one) (cells other) && apart_from one shapes

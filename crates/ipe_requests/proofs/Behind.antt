@@ -1,4 +1,4 @@
--- What stands behind the first word of a line.
+-- What stands after the first word of a line.
 use Rattle.std.proofs.Common.{◌≡◌, inl, inr, ℕ, ◌<◌, Bool, true, false, not, List, [], ◌∷◌, length, get_or, refl, sym, ap, arith}
 use Rattle.std.specs.List.{after_first, position_or_len}
 use Rattle.std.proofs.lemmas.Bool.{cases_lt, false≢true}
@@ -12,7 +12,7 @@ not-true : (b : Bool) → not b ≡ true → b ≡ false
 not-true true h = absurd (false≢true h)
 not-true false h = refl
 
--- the words behind the first are those of what stands behind the first blank
+-- the words after the first are those of what stands after the first blank
 pub behind-rest : (line : List ℕ) → 1 < length (words_of line) → words_of (after_first is_blank line) ≡ rest (words_of line)
 behind-rest line many = elim (cases_lt (position_or_len is_blank line) (length line)) [
   | inl inside ↦ sym (ap rest (slice_split_first is_blank line 0 inside))

@@ -68,7 +68,7 @@ seal-cell known text row words values e =
     subst (λ (w : List ℕ). position (is_text w) known.seals.names ≡ None) test.1
     (none-not_some (position (is_text read.0) known.seals.names) test.0)
 
--- the cells behind the first
+-- the cells after the first
 abbrev behind : List Cell → List Cell
 behind [] = []
 behind (cell ∷ row) = row

@@ -19,7 +19,7 @@ use Rattle.ipe_requests.proofs.Pieces.{go_on, take_line-is}
 use Rattle.ipe_requests.proofs.Spelled.{Read, read_line-spelled}
 use Rattle.ipe_requests.proofs.SoFar.{IsOpen, Ordered, Stepped, end_at, head_at, open_part, parts, rank, said-begins, said-stands, so_far, step, text-step}
 
--- a line of an open text goes behind the bytes so far
+-- a line of an open text goes after the bytes so far
 raw-step : (known : Known) (o : Option OpenText) (bytes : List ℕ) → Ordered known → known.text ≡ o → 0 < known.due
     → IsOpen (rank known.section) known.due o → Stepped known (with_raw known o bytes) (line_text bytes)
 raw-step known None bytes ordered is due open_text = absurd (omega (arith, open_text))

@@ -63,7 +63,7 @@ pub spelled_of : (bytes : List ℕ) (known : Known) (script : Script) → file_r
     → script ≡ script_of known → request_text script ≡ bytes
 spelled_of bytes known script is same = ap request_text same ∙ file-spelled bytes known is
 
--- lists that are appended one behind another
+-- lists that are appended one after another
 abbrev pub onto : List ℕ → List (List ℕ) → List ℕ
 onto front [] = front
 onto front (part ∷ parts) = onto (front ++ part) parts

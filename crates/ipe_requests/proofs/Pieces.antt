@@ -142,7 +142,7 @@ refused asked known now bytes line rest (Some other) fault e cut some read =
     ∙ ap (λ (r : Result Known ScriptKind). go_on known.count r (slice_split is_line_feed rest)) read
     ∙ ap (λ (f : ScriptKind). Err (record { line = known.count + 1; fault = f })) same
 
--- behind the last line
+-- after the last line
 pub ended : (asked : Result Known FirstBad) (known : Known) (rest : List ℕ) (found : Option ScriptKind)
     → asked ≡ read_pieces known (slice_split is_line_feed rest) → slice_split is_line_feed rest ≡ rest ∷ []
     → found ≡ last_piece known.section rest → found ≡ None → asked ≡ Ok known

@@ -1,4 +1,4 @@
--- What is printed, one list of bytes behind another, is the spelling.
+-- What is printed, one list of bytes after another, is the spelling.
 use Rattle.std.proofs.Common.{◌≡◌, ℕ, List, [], ◌∷◌, ◌++◌, ap, ◌∙◌}
 use Rattle.std.specs.List.{flat_map}
 use Rattle.ipe_requests.specs.declared.line.Line.TheVariants as line
@@ -6,7 +6,7 @@ use Rattle.ipe_requests.specs.Requests.{Script}
 use Rattle.ipe_requests.specs.Spelling.{file_text, head_text, mark_text, phase_text, request_text, said_text, seal_text, text_text, volume_text}
 use Rattle.ipe_requests.proofs.Laws.{onto-concat}
 
--- what is printed one behind another is the spelling
+-- what is printed one after another is the spelling
 pub printed : (script : Script) (first a b c d e f last : List ℕ) → first ≡ head_text script.workers
     → a ≡ first ++ flat_map text_text script.texts → b ≡ a ++ flat_map volume_text script.volumes
     → c ≡ b ++ flat_map file_text script.files → d ≡ c ++ flat_map seal_text script.seals

@@ -90,7 +90,7 @@ pub record Ordered (known : Known) : Type 0 where
 
 -- ---- lists of bytes
 
--- one of them grows where nothing stands behind it
+-- one of them grows where nothing stands after it
 grow : (front : List (List ℕ)) (part more : List ℕ) (back : List (List ℕ)) → concat back ≡ []
     → concat (front ++ (part ++ more) ∷ back) ≡ concat (front ++ part ∷ back) ++ more
 grow [] part more back none =
@@ -108,7 +108,7 @@ drop-nil : (i : ℕ) → concat (drop i []) ≡ []
 drop-nil zero = refl
 drop-nil (suc i) = refl
 
--- what stands farther behind is empty too
+-- what stands farther after is empty too
 later-less : (a b : ℕ) (lists : List (List ℕ)) → a ≤ b → concat (drop a lists) ≡ [] → concat (drop b lists) ≡ []
 later-less a b [] below none = drop-nil b
 later-less zero zero (first ∷ lists) below none = none
@@ -122,7 +122,7 @@ flat_map-one f xs x = flat_map-append f xs (x ∷ []) ∙ ap (λ (b : List ℕ).
 
 -- ---- which lines may stand where
 
--- the first and the last place of a section behind which a line of this shape may stand
+-- the first and the last place of a section after which a line of this shape may stand
 abbrev pub first_place : Shape → ℕ
 first_place shape.Header = 0
 first_place shape.Workers = 1
@@ -177,7 +177,7 @@ find-all test p (y ∷ ys) x all e =
     chosen true later here e = let same : y ≡ x = same_Some y x e in subst (λ z. p z ≡ true) same here
     chosen false later here e = later e
 
--- a line may stand behind one of this section, between two places
+-- a line may stand after one of this section, between two places
 pub record Stands (place : Section) (said : Line) : Type 0 where
   pub from : first_place (shape_for said) ≤ rank place
   pub upto : rank place ≤ last_place (shape_for said)
@@ -292,7 +292,7 @@ not-eight n below = chosen (nat_eq n 8) refl
     chosen true e = let same : n ≡ 8 = eqb-true n 8 e in absurd (omega arith)
     chosen false e = e
 
--- nothing stands behind a place that isn't before
+-- nothing stands after a place that isn't before
 behind : (known : Known) (place : ℕ) → Ordered known → rank known.section ≤ place
     → concat (drop (place - 2) (parts known)) ≡ []
 behind known place ordered upto =
@@ -461,7 +461,7 @@ asked-place known (asked.Read number node) stands = omega (arith, stands.from, s
 asked-place known (asked.Hook number worker what subject path) stands =
     hook-places what known.section stands.from stands.upto
 
--- what is said behind the lines so far goes behind their bytes
+-- what is said after the lines so far goes after their bytes
 pub step : (known : Known) (said : Line) → Ordered known → known.due ≡ 0 → Stands known.section said → Begins said
     → Stepped known (with_line known said) (said_text said)
 step known line.Header ordered none stands begins =

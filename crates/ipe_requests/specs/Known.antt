@@ -180,7 +180,7 @@ with_last known what = record known { section = section.Asked; asked = known.ask
 abbrev pub with_asked : Known → PhaseLine → Known
 with_asked known what = with_last (with_counts known what) what
 
--- what is known behind a line that says this
+-- what is known after a line that says this
 abbrev pub with_line : Known → Line → Known
 with_line known line.Header = record known { section = section.Header }
 with_line known (line.Workers count) = record known { section = section.Workers; workers = count }

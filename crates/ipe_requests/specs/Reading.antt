@@ -1,4 +1,4 @@
--- What a line says behind the lines before it, or what is wrong with it; and the same of a file.
+-- What a line says after the lines before it, or what is wrong with it; and the same of a file.
 use Rattle.std.specs.Prelude.{ℕ, zero, suc, ◌+◌, ◌==◌, ◌&&◌, ◌||◌, Bool, true, false, nat_eq, if◌then◌else◌, codes, List, [], ◌∷◌, ◌++◌, length, Option, Some, None, ok_or, Result, Ok, Err}
 use Rattle.std.specs.List.{find, starts_with, slice_split}
 use Rattle.std.specs.Option.{option_map}
@@ -69,7 +69,7 @@ read_word known Unsealed word =
     else Err fault.Unknown)
     else Err fault.Name
 
--- the words behind the first
+-- the words after the first
 abbrev pub rest : List (List ℕ) → List (List ℕ)
 rest [] = []
 rest (word ∷ words) = words
@@ -140,7 +140,7 @@ shape_of shapes words = find (λ shape. has_form (cells shape) words) shapes
 
 -- ---- a line
 
--- the fault of a line that has none of the forms that may stand behind a line of this section
+-- the fault of a line that has none of the forms that may stand after a line of this section
 abbrev pub misplaced : Section → ScriptKind
 misplaced section.Start = fault.Header
 misplaced section.Ended = fault.After
@@ -161,14 +161,14 @@ abbrev pub read_line : Known → List ℕ → Result Line ScriptKind
 read_line known bytes =
     read_shape known (words_of bytes) known.section (shape_of (may_follow known.section) (words_of bytes))
 
--- what is known behind a line whose words are good: it is within its range, and then within the limits
+-- what is known after a line whose words are good: it is within its range, and then within the limits
 abbrev pub take_line : Known → Line → Result Known ScriptKind
 take_line known line =
     if is_out_of_range known line then Err fault.Range
     else if is_within_limits (with_line known line) then Ok (with_line known line)
     else Err fault.Limit
 
--- what is known behind a line, where so many raw lines are due
+-- what is known after a line, where so many raw lines are due
 abbrev pub take_due : ℕ → Known → List ℕ → Result Known ScriptKind
 take_due zero known bytes = and_then (take_line known) (read_line known bytes)
 take_due (suc due) known bytes = Ok (with_raw known known.text bytes)
@@ -177,7 +177,7 @@ take_due (suc due) known bytes = Ok (with_raw known known.text bytes)
 abbrev pub counted : Known → Known
 counted known = record known { count = known.count + 1 }
 
--- what is known behind the next line
+-- what is known after the next line
 abbrev pub take : Known → List ℕ → Result Known ScriptKind
 take known bytes = take_due known.due (counted known) bytes
 
@@ -188,7 +188,7 @@ pub record FirstBad : Type 0 where
   pub line : ℕ
   pub fault : ScriptKind
 
--- the fault of the last piece, behind which there is no line feed
+-- the fault of the last piece, after which there is no line feed
 abbrev pub last_piece : Section → List ℕ → Option ScriptKind
 last_piece section.Ended [] = None
 last_piece place [] = Some fault.Unended
@@ -199,7 +199,7 @@ abbrev pub end_with : Known → Option ScriptKind → Result Known FirstBad
 end_with known None = Ok known
 end_with known (Some fault) = Err (record { line = known.count + 1; fault = fault })
 
--- what pieces between line feeds come to, behind the lines before
+-- what pieces between line feeds come to, after the lines before
 abbrev pub read_pieces : Known → List (List ℕ) → Result Known FirstBad
 read_pieces known [] = Err (record { line = known.count + 1; fault = fault.Unended })
 read_pieces known (last ∷ []) = end_with known (last_piece known.section last)

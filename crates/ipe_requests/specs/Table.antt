@@ -99,7 +99,7 @@ lines_of section.Asked =
     WriteText ∷ WriteEcho ∷ WriteHex ∷ Read ∷ Exec ∷ Mmap ∷ Mprotect ∷ KernelRead ∷ KernelLoad ∷ []
 lines_of section.Ended = End ∷ []
 
--- the sections of which a line may stand behind a line of this one
+-- the sections of which a line may stand after a line of this one
 abbrev pub next_sections : Section → List Section
 next_sections section.Start = section.Header ∷ []
 next_sections section.Header = section.Workers ∷ []
@@ -117,7 +117,7 @@ next_sections section.Phase = section.Asked ∷ section.Phase ∷ section.Ended 
 next_sections section.Asked = section.Asked ∷ section.Phase ∷ section.Ended ∷ []
 next_sections section.Ended = []
 
--- the lines that may stand behind one of this section
+-- the lines that may stand after one of this section
 abbrev pub may_follow : Section → List Shape
 may_follow place = flat_map lines_of (next_sections place)
 

@@ -49,7 +49,7 @@ pub fn text(alloc: Global, known: &Known, words: &[&[u8]]) -> Result<Line, Scrip
     }))
 }
 
-// What stands behind the first blank of a line.
+// What stands after the first blank of a line.
 fn behind_word(line: &[u8]) -> &[u8]
     requires { 1 < length (words_of line.now) }
     ensures { words_of result.now ≡ rest (words_of line.now) }

@@ -6,9 +6,9 @@ use crate::script::{FileLine, MarkLine, PhaseLine, SealLine, VolumeLine};
 pub enum ScriptKind {
     /// The file ends before its line `end`.
     Unended,
-    /// Behind the last line there is no line feed.
+    /// After the last line there is no line feed.
     NoNewline,
-    /// Something stands behind the line `end`.
+    /// Something stands after the line `end`.
     After,
     /// The first line isn't `ipe-requests 1`.
     Header,

@@ -13,7 +13,7 @@ use line_words::cut_line;
 use std::alloc::{AllocError, Global};
 use thiserror::Error;
 
-/// Why bytes are no request file: the first bad line, counted from 1, or want of memory.
+/// Why bytes are no request file: the first bad line, counted from 1, or out of memory.
 #[derive(Debug, Drop, Error)]
 pub enum ScriptError {
     #[error("line {line}: {kind:?}")]
@@ -76,7 +76,7 @@ fn take(alloc: Global, known: &mut Known, bytes: &[u8]) -> Result<Option<ScriptK
     take_next(alloc, known, bytes)
 }
 
-// The fault of the last piece, behind which there is no line feed.
+// The fault of the last piece, after which there is no line feed.
 fn last_fault(section: Section, rest: &[u8]) -> Option<ScriptKind>
     ensures { result ≡ last_piece section rest.now }
 {

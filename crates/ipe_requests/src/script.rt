@@ -52,7 +52,7 @@ pub struct FileLine {
     pub form: FileForm,
 }
 
-/// A file has fs-verity: its descriptor stands at byte `at` of a device, the blocks of its tree behind the descriptor's
+/// A file has fs-verity: its descriptor stands at byte `at` of a device, the blocks of its tree after the descriptor's
 /// 256 bytes.
 #[derive(Debug, Drop)]
 pub struct SealLine {
@@ -94,7 +94,7 @@ pub struct MarkLine {
     pub digest: MarkDigest,
 }
 
-/// What is written to a node: a text; a word, behind which a line feed is written; or bytes.
+/// What is written to a node: a text; a word, after which a line feed is written; or bytes.
 #[derive(Debug, Drop)]
 pub enum WriteContent {
     Text(DevName),
@@ -104,7 +104,7 @@ pub enum WriteContent {
 
 /// A line of a phase: a write to a node by one who has the administrator's right, or hasn't (`may`), a read of a node by
 /// the administrator, or a hook call of a worker. A hook has no path exactly where it is a kernel load, or an `mprotect`
-/// of memory that no file is behind.
+/// of memory that no file stands behind.
 #[derive(Debug, Drop)]
 pub enum PhaseLine {
     Write {

@@ -51,14 +51,14 @@ fn are_many(words: &[&[u8]]) -> bool
     words.len() == 10 || words.len() == 13
 }
 
-// What stands in a volume's file behind the word `volume`.
+// What stands in a volume's file after the word `volume`.
 fn are_of_volume(words: &[&[u8]]) -> bool
     ensures { result ≡ has_form (drop 3 (cells Shape.FileVolume)) (seen words.now) }
 {
     matches!(words, [_, _, _, _])
 }
 
-// What stands in a plain file behind the word `plain`.
+// What stands in a plain file after the word `plain`.
 fn are_plain(words: &[&[u8]]) -> bool
     ensures { result ≡ has_form (drop 3 (cells Shape.FilePlain)) (seen words.now) }
 {
@@ -143,7 +143,7 @@ fn read_words(
 }
 
 impl Section {
-    // The shapes that may stand behind a line of this section.
+    // The shapes that may stand after a line of this section.
     fn shapes_behind(self) -> &'static [Shape]
         ensures { result.now ≡ may_follow self }
     {
@@ -208,7 +208,7 @@ impl Section {
         }
     }
 
-    // The shape of a line behind one of this section.
+    // The shape of a line after one of this section.
     fn shape_of(self, words: &[&[u8]]) -> Option<Shape>
         ensures { result ≡ shape_of (may_follow self) (seen words.now) }
     {
@@ -218,7 +218,7 @@ impl Section {
             .find(|shape| shape.fits(words))
     }
 
-    // The fault of a line that has no shape behind one of this section.
+    // The fault of a line that has no shape after one of this section.
     fn misplaced(self) -> ScriptKind
         ensures { result ≡ misplaced self }
     {
@@ -247,7 +247,7 @@ fn read_known(
     }
 }
 
-// What a line that isn't raw says behind those before it, or what is wrong with it. A line of more words than any shape has
+// What a line that isn't raw says after those before it, or what is wrong with it. A line of more words than any shape has
 // is not cut.
 pub fn read_line(
     alloc: Global,

@@ -12,7 +12,7 @@ use Rattle.ipe_script.specs.Grammar.{Progress, next, requests_from}
 use Rattle.line_words.specs.Lines.{is_line_feed, CutsLine}
 use Rattle.ipe_script.specs.Reader.{Takes}
 
--- a line with pieces behind it
+-- a line with pieces after it
 requests_from-line : (progress : Progress) (number : ℕ) (line : List ℕ) (pieces : List (List ℕ)) → 0 < length pieces → requests_from progress number (line ∷ pieces) ≡ option_map_or (λ more. requests_from more (number + 1) pieces) (next progress (number + 1) line) (Err (number + 1))
 requests_from-line progress number line [] some = absurd (omega arith)
 requests_from-line progress number line (piece ∷ pieces) some = refl

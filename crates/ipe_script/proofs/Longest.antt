@@ -1,4 +1,4 @@
--- The longest text, with one more text behind the others.
+-- The longest text, with one more text after the others.
 use Rattle.std.proofs.Common.{◌≡◌, ℕ, nat_le, max, cond, List, [], ◌∷◌, ◌++◌, length, sym, ap, ◌∙◌, arith}
 use Rattle.std.proofs.Math.Nat.{max_comm}
 use Rattle.std.proofs.lemmas.Bool.Decides.{nat_tests}

@@ -193,12 +193,12 @@ may_hook-command at_end may = cc
 
 -- ---- one more of each part
 
--- one more element gives its own piece, behind the others
+-- one more element gives its own piece, after the others
 pub flat_map-push : {X A : Type 0} (f : X → List A) (xs : List X) (x : X)
     → flat_map f (xs ++ x ∷ []) ≡ flat_map f xs ++ f x
 flat_map-push f xs x = flat_map-append f xs (x ∷ []) ∙ ap (λ rest. flat_map f xs ++ rest) (append-nil (f x))
 
--- what goes behind the first part goes behind all, where the parts behind it are empty
+-- what goes after the first part goes after all, where the parts after it are empty
 behind_first : (head all more : List ℕ)
     → head ++ (all ++ more) ++ [] ++ [] ++ [] ≡ (head ++ all ++ [] ++ [] ++ []) ++ more
 behind_first head all more = simp (append_assoc, append-nil)
@@ -221,7 +221,7 @@ behind_last first second third all more = simp append_assoc
 abbrev pub plus_text : Script → TextLine → Script
 plus_text script text = record script { texts = script.texts ++ text ∷ [] }
 
--- a text goes behind all, where nothing but texts is there
+-- a text goes after all, where nothing but texts is there
 pub body-text : (script : Script) (text : TextLine) → HasOnlyTexts script
     → body (plus_text script text) ≡ body script ++ text_lines text
 body-text script text only =
@@ -233,7 +233,7 @@ body-text script text only =
 abbrev pub plus_file : Script → FileLine → Script
 plus_file script file = record script { files = script.files ++ file ∷ [] }
 
--- a file goes behind all, where there is no mark and no phase
+-- a file goes after all, where there is no mark and no phase
 pub body-file : (script : Script) (file : FileLine) → HasNoMarks script
     → body (plus_file script file) ≡ body script ++ line_text (form_of_file script file)
 body-file script file none =
@@ -246,7 +246,7 @@ body-file script file none =
 abbrev pub plus_mark : Script → MarkLine → Script
 plus_mark script mark = record script { marks = script.marks ++ mark ∷ [] }
 
--- a mark goes behind all, where there is no phase
+-- a mark goes after all, where there is no phase
 pub body-mark : (script : Script) (mark : MarkLine) → script.phases ≡ []
     → body (plus_mark script mark) ≡ body script ++ line_text (form_of_mark script mark)
 body-mark script mark none =
@@ -260,7 +260,7 @@ body-mark script mark none =
 abbrev pub with_phases : Script → List (List PhaseLine) → Script
 with_phases script phases = record script { phases = phases }
 
--- a phase goes behind all
+-- a phase goes after all
 pub body-phase : (script : Script) (phases : List (List PhaseLine)) (more : List ℕ)
     → phase_part script phases ≡ phase_part script script.phases ++ more
     → body (with_phases script phases) ≡ body script ++ more
@@ -276,7 +276,7 @@ phase_part-begin script phases =
     flat_map-push (phase_lines script) phases []
     ∙ ap (λ last. phase_part script phases ++ last) (append-nil (line_text form.Phase))
 
--- one more line of the last phase goes behind all
+-- one more line of the last phase goes after all
 pub phase_part-line : (script : Script) (before : List (List PhaseLine)) (last : List PhaseLine) (line : PhaseLine)
     → phase_part script (before ++ (last ++ line ∷ []) ∷ [])
     ≡ phase_part script (before ++ last ∷ []) ++ line_text (form_of_task script line.task)
@@ -310,7 +310,7 @@ AreAllNumbered-begin number [] are = (tt, tt)
 AreAllNumbered-begin number (lines ∷ phases) are =
     (are.0, AreAllNumbered-begin (number + 1 + length lines) phases are.1)
 
--- one more line of the last phase has the number behind all
+-- one more line of the last phase has the number after all
 pub AreAllNumbered-line : (number : ℕ) (before : List (List PhaseLine)) (last : List PhaseLine) (line : PhaseLine)
     → AreAllNumbered number (before ++ last ∷ []) → line.line ≡ number + lines_of (before ++ last ∷ [])
     → AreAllNumbered number (before ++ (last ++ line ∷ []) ∷ [])

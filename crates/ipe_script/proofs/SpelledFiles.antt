@@ -70,7 +70,7 @@ no_bytes : (bytes : List ℕ) → (length bytes == 0) ≡ true → bytes ≡ []
 no_bytes [] e = refl
 no_bytes (byte ∷ bytes) e = absurd (grind (arith, nat_tests))
 
--- the lines so far and the pieces behind them spell what they ask
+-- the lines so far and the pieces after them spell what they ask
 from-spelled : (pieces : List (List ℕ)) (progress : Progress) (number : ℕ) (text : List ℕ) (script : Script)
     → HaveNoFeeds pieces → ReadsNow progress number text → requests_from progress number pieces ≡ Ok script
     → Spells (text ++ join_with_byte 10 pieces) script

@@ -1,4 +1,4 @@
--- A line of a request file that may stand where it stands goes behind the lines so far.
+-- A line of a request file that may stand where it stands goes after the lines so far.
 use Rattle.std.proofs.Common.{◌≡◌, ℕ, zero, suc, ◌+◌, ◌-◌, ◌<◌, ◌&&◌, Bool, true, false, cond, nat_lt, nat_le, List, [], ◌∷◌, ◌++◌, length, Option, Some, None, refl, sym, ap, subst, ◌∙◌, arith, append_assoc, length-append}
 use Rattle.std.specs.Prelude.{codes, count_by, is_none}
 use Rattle.std.specs.Option.{option_map, option_and_then}
@@ -126,7 +126,7 @@ feeds-line bytes line none =
     sum_by-append (λ b. cond (is_line_feed b) 1 0) bytes line in
     omega arith
 
--- a line goes behind a text's bytes so far
+-- a line goes after a text's bytes so far
 behind_bytes : (head first bytes line end : List ℕ)
     → (head ++ (first ++ bytes)) ++ (line ++ end) ≡ head ++ (first ++ (bytes ++ line ++ end))
 behind_bytes head first bytes line end = simp append_assoc
@@ -525,7 +525,7 @@ workers-reads script number text line is has =
       },
     )
 
--- the lines so far, with the stage behind them
+-- the lines so far, with the stage after them
 abbrev at : Progress → Stage → Progress
 at progress stage = record progress { stage = stage }
 

@@ -171,7 +171,7 @@ kernel_load_form who hook pid comm kind =
     when (is_hook_line (codes "load") who hook)
     (option_and_then (λ named. hook_of (request.KernelLoad named) pid comm None) (kind_of kind))
 
--- the form of a line behind the first two
+-- the form of a line after the first two
 abbrev pub form_of_words : List (List ℕ) → Option Form
 form_of_words (key ∷ []) = lone_form key
 form_of_words (one ∷ two ∷ three ∷ []) = option_or (text_form one two three) (read_form one two three)

@@ -71,12 +71,12 @@ abbrev pub open_text : Progress → List ℕ → List ℕ → ℕ → Progress
 open_text progress id bytes zero = with_text progress id bytes
 open_text progress id bytes (suc left) = record progress { stage = in_text id bytes (suc left) }
 
--- a text stands behind the workers and outside of a text, before the files
+-- a text stands after the workers and outside of a text, before the files
 abbrev pub may_declare_text : Stage → Bool
 may_declare_text in_texts = true
 may_declare_text other = false
 
--- a file stands behind the texts, and before the marks
+-- a file stands after the texts, and before the marks
 abbrev pub may_declare_file : Stage → Bool
 may_declare_file in_texts = true
 may_declare_file in_files = true
@@ -89,7 +89,7 @@ may_mark in_files = true
 may_mark in_marks = true
 may_mark other = false
 
--- a phase, or the end, stands behind the workers and outside of a text
+-- a phase, or the end, stands after the workers and outside of a text
 abbrev pub may_begin_phase : Stage → Bool
 may_begin_phase in_texts = true
 may_begin_phase in_files = true
@@ -177,7 +177,7 @@ abbrev pub marked_at : Script → Marked → Option MarkDigest
 marked_at script (marked.Text id) = option_map digest.Text (text_place script id)
 marked_at script (marked.Hex bytes) = Some (digest.Hex bytes)
 
--- a mark goes behind the others
+-- a mark goes after the others
 abbrev pub add_mark : Progress → MarkPurpose → MarkVerdict → Marked → Option Progress
 add_mark progress purpose verdict marked =
     when (may_mark progress.stage && nat_lt (length progress.script.marks) most_marks)
@@ -292,7 +292,7 @@ with_form progress number (form.Read node) = add_read progress number node
 with_form progress number (form.Hook asked subject path) = add_hook progress number asked subject path
 with_form progress number form.End = end_file progress
 
--- a line behind the first two, outside of a text
+-- a line after the first two, outside of a text
 abbrev pub with_formed : Progress → ℕ → List ℕ → Option Progress
 with_formed progress number line = option_and_then (with_form progress number) (form_of line)
 
@@ -327,9 +327,9 @@ abbrev pub is_ended : Stage → Bool
 is_ended at_end = true
 is_ended other = false
 
--- what the pieces between line feeds ask, behind the lines so far, of which there are `number`; or the number of the
+-- what the pieces between line feeds ask, after the lines so far, of which there are `number`; or the number of the
 -- first line that may not stand where it stands. What follows the last line feed is no line, and must be nothing,
--- behind the line `end`
+-- after the line `end`
 abbrev pub requests_from : Progress → ℕ → List (List ℕ) → Result Script ℕ
 requests_from progress number [] = Err (number + 1)
 requests_from progress number (rest ∷ []) =

@@ -115,7 +115,7 @@ id_at script place = option_map_or (λ (text : TextLine). text.id) (slice_get sc
 abbrev pub path_at : Script → ℕ → List ℕ
 path_at script place = option_map_or (λ (file : FileLine). file.path) (slice_get script.files place) []
 
--- a text's line, and behind it the text: as many lines as it has line feeds
+-- a text's line, and after it the text: as many lines as it has line feeds
 abbrev pub text_lines : TextLine → List ℕ
 text_lines text = line_text (form.Text text.id (count_by is_line_feed text.bytes)) ++ text.bytes
 

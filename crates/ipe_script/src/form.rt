@@ -31,7 +31,7 @@ pub enum Written {
     Hex(Bytes),
 }
 
-/// What a line of a request file says, behind the first two lines and outside of a text.
+/// What a line of a request file says, after the first two lines and outside of a text.
 #[derive(Debug, Drop)]
 pub enum Form {
     Text(DevName, u32),

@@ -33,7 +33,7 @@ pub enum ScriptKind {
     NotYet,
 }
 
-/// Why bytes are no request file: the first bad line, counted from 1, or want of memory.
+/// Why bytes are no request file: the first bad line, counted from 1, or out of memory.
 #[derive(Debug, Drop, Error)]
 pub enum ScriptError {
     #[error("line {line}: {kind:?}")]
@@ -339,7 +339,7 @@ impl Reader {
     }
 }
 
-// A line of a text, with the line feed behind it.
+// A line of a text, with the line feed after it.
 fn append_line(bytes: &mut Vec<u8>, line: &[u8]) -> Result<(), AllocError>
     ensures { OnOk result (bytes.new.items ≡ bytes.old.items ++ line.now ++ 10 ∷ []) }
 {

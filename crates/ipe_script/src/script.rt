@@ -51,7 +51,7 @@ pub struct MarkLine {
     pub digest: MarkDigest,
 }
 
-/// What is written to a node: a declared text, named by its place; a word, behind which a line feed is written; or
+/// What is written to a node: a declared text, named by its place; a word, after which a line feed is written; or
 /// bytes.
 #[derive(Debug, Drop)]
 pub enum WriteContent {

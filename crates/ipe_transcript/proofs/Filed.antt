@@ -107,7 +107,7 @@ module _ {X : Type 0} (actor line : X → ℕ) (key : X → Option Key) where
   abbrev IsLatest : X → List X → Type 0
   IsLatest x before = filed_key actor key before x ≡ latest_of_all (x ∷ before)
 
-  -- what an entry that directly follows has to meet: that it is filed by the latest key, behind the one before it
+  -- what an entry that directly follows has to meet: that it is filed by the latest key, after the one before it
   abbrev Follows : X → List X → X → Type 0
   Follows previous before x =
       IsLatest x (previous ∷ before) × Before (latest_of_all (previous ∷ before), previous) (latest_of_all (x ∷ previous ∷ before), x)
@@ -166,7 +166,7 @@ module _ {X : Type 0} (actor line : X → ℕ) (key : X → Option Key) where
       by (Some k) is = placed_follows previous before x xs k is rises
       by None is = unplaced_follows previous before x xs is latest rise (stand.0 is)
 
-  -- keys that rise behind the latest rise behind the next latest
+  -- keys that rise after the latest rise after the next latest
   rises_on : (o p : Option Key) (keys : List Key) → Rises (cons_option o (cons_option p keys)) → Rises (cons_option (option_or p o) keys)
   rises_on o None keys rise = rise
   rises_on None (Some k) keys rise = rise

@@ -14,7 +14,7 @@ module _ {X : Type 0} (actor_in : X → ℕ) (key_of : X → Option Key) where
   pub own-skip : (actor : ℕ) (x : X) (xs : List X) → (actor_in x == actor) ≡ false → own_of actor_in actor (x ∷ xs) ≡ own_of actor_in actor xs
   own-skip actor x xs is = rw is refl
 
-  -- the first entry of an actor comes behind a key that the keys rise behind
+  -- the first entry of an actor comes after a key that the keys rise after
   key_in : (k : Key) (actor : ℕ) (x : X) (r zs : List X) (own : Key) → own_of actor_in actor zs ≡ x ∷ r → key_of x ≡ Some own → Rises (k ∷ filter_map key_of zs) → IsBefore k own
   key_in k actor x r [] own is placed rise = cc
   key_in k actor x r (z ∷ zs) own is placed rise = elim (cases_Bool (actor_in z == actor)) [
@@ -84,7 +84,7 @@ module _ {X : Type 0} (actor_in : X → ℕ) (key_of : X → Option Key) where
           let two : IsBefore ky kx = key_in ky (actor_in x) x (own_of actor_in (actor_in x) xs) ys kx in_ys is_x (subst (λ (o : Option Key). Rises (cons_option o (filter_map key_of ys))) is_y rise_y) in
           before-irrefl kx (before-trans kx ky kx one two)
 
-  -- so it is behind any entries
+  -- so it is after any entries
   one_order : (before xs ys : List X) → ((actor : ℕ) → own_of actor_in actor xs ≡ own_of actor_in actor ys)
       → Rises (filter_map key_of xs) → Rises (filter_map key_of ys) → UnplacedStand actor_in key_of before xs → UnplacedStand actor_in key_of before ys → xs ≡ ys
   one_order before [] [] same rise_x rise_y stand_x stand_y = refl

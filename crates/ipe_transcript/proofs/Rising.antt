@@ -24,7 +24,7 @@ before-irrefl a (inr h) = inner h.1
     inner (inl k) = omega (arith, k)
     inner (inr k) = omega (arith, k.1)
 
--- keys that rise behind one, but for the first of them
+-- keys that rise after one, but for the first of them
 pub rises-skip : (k : Key) (o : Option Key) (keys : List Key) → Rises (k ∷ cons_option o keys) → Rises (k ∷ keys)
 rises-skip k None keys rise = rise
 rises-skip k (Some next) [] rise = tt

@@ -18,7 +18,7 @@ all_in Q z (x ∷ xs) all (inl same) = subst Q same all.0
 all_in Q z (x ∷ xs) all (inr there) = all_in Q z xs all.1 there
 
 module _ {P : Type 0} (R : P → P → Type 0) (irrefl : (x : P) → R x x → ⊥) (trans : (x y z : P) → R x y → R y z → R x z) where
-  -- the elements behind the same first one
+  -- the elements after the same first one
   tail_in : (x z : P) (xs ys : List P) → AllByRecursion (R x) xs → In z xs → In z (x ∷ ys) → In z ys
   tail_in x z xs ys above there (inl same) = absurd (irrefl z (subst (λ (w : P). R w z) same (all_in (R x) z xs above there)))
   tail_in x z xs ys above there (inr within) = within

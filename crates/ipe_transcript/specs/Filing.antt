@@ -16,7 +16,7 @@ latest_key actor key a (entry ∷ before) =
 abbrev pub filed_key : {X : Type 0} → (X → ℕ) → (X → Option Key) → List X → X → Option Key
 filed_key actor key before entry = option_or (key entry) (latest_key actor key (actor entry) before)
 
--- each entry with the key by which it is filed, behind those before
+-- each entry with the key by which it is filed, after those before
 abbrev pub filed : {X : Type 0} → (X → ℕ) → (X → Option Key) → List X → List X → List (Option Key × X)
 filed actor key before [] = []
 filed actor key before (entry ∷ entries) =

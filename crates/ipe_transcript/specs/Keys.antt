@@ -47,7 +47,7 @@ Rises (key ∷ next ∷ keys) = IsBefore key next × Rises (next ∷ keys)
 abbrev pub own_of : {X : Type 0} → (X → ℕ) → ℕ → List X → List X
 own_of actor a entries = filter (λ entry. actor entry == a) entries
 
--- an entry stands directly behind one of its own actor; the entries before it are given latest first
+-- an entry stands directly after one of its own actor; the entries before it are given latest first
 abbrev pub FollowsItsOwn : {X : Type 0} → (X → ℕ) → List X → X → Type 0
 FollowsItsOwn actor [] entry = ⊥
 FollowsItsOwn actor (previous ∷ before) entry = actor previous ≡ actor entry
@@ -57,14 +57,14 @@ abbrev pub StandsAtTheBeginning : {X : Type 0} → (X → ℕ) → (X → Option
 StandsAtTheBeginning {X = X} actor key before entry =
     AllByRecursion (λ (earlier : X). (key earlier ≡ None) × (actor earlier < actor entry)) before
 
--- each entry without a key stands in one of these two ways, behind those before
+-- each entry without a key stands in one of these two ways, after those before
 abbrev pub UnplacedStand : {X : Type 0} → (X → ℕ) → (X → Option Key) → List X → List X → Type 0
 UnplacedStand actor key before [] = Unit {0}
 UnplacedStand actor key before (entry ∷ entries) =
     (key entry ≡ None → FollowsItsOwn actor before entry ⊎ StandsAtTheBeginning actor key before entry)
     × UnplacedStand actor key (entry ∷ before) entries
 
--- a phase's entries are in place: those that have a key stand by it, and the others behind their own actor's or at the
+-- a phase's entries are in place: those that have a key stand by it, and the others after their own actor's or at the
 -- beginning
 pub record AreInPlace {X : Type 0} (actor : X → ℕ) (key : X → Option Key) (entries : List X) : Type 0 where
   pub rises : Rises (filter_map key entries)

@@ -64,7 +64,7 @@ abbrev pub access_line : Option (List ℕ) → List ℕ
 access_line None = []
 access_line (Some record_line) = line_text record_line
 
--- an entry's line, with its record lines behind it
+-- an entry's line, with its record lines after it
 abbrev pub entry_text : Entry → List ℕ
 entry_text (entry.Write line may code epoch records) =
     line_text (write_text line may code epoch) ++ flat_map line_text records

@@ -10,7 +10,7 @@ use ipe_policy::Which;
 use ipe_words::Bytes;
 use std::alloc::{AllocError, Global};
 
-/// Appends an entry's line, and behind it the lines of its records, each with a line feed. Out of memory, nothing is
+/// Appends an entry's line, and after it the lines of its records, each with a line feed. Out of memory, nothing is
 /// appended.
 pub fn print_entry(alloc: Global, out: &mut Vec<u8>, entry: &Entry) -> Result<(), AllocError>
     ensures ok { OnOk result (out.new.items ≡ out.old.items ++ entry_text entry.now) }

@@ -7,7 +7,7 @@ use ipe_policy::Which;
 use ipe_words::Bytes;
 use line_words::Items;
 
-/// What a file that was read behind an allowed hook came to.
+/// What a file that was read after an allowed hook came to.
 #[derive(Debug, Drop)]
 pub enum Content {
     /// The SHA-256 digest of the file's bytes.

@@ -30,7 +30,7 @@ pub write_near : CommandsStayOrBegin → (verdicts : Verdicts) (policies : Polic
 write_near law verdicts policies (Err refusal) sound = (inl (refl, (refl, refl, refl)), sound)
 write_near law verdicts policies (Ok command) sound = law verdicts policies command sound
 
--- a claim behind the history is answered as the machine answers
+-- a claim after the history is answered as the machine answers
 pub claim_answer : (g : Founded) (machine : Machine) (h : List Event) (op : Op) (access : Access) → Agree g.basis machine h → g.basis.claimed h op access ≡ hook_reply machine (Some op) access
 claim_answer g machine h op access agree = g.laws.answers machine h op access agree.like agree.shows
 

@@ -27,7 +27,7 @@ leads_none lead from (suc n) actor rest low own =
     ∙ own_other actor (from + 1) (lead from) (leads lead (from + 1) n ++ rest) (λ e. omega (arith, low, e)) (own from)
     ∙ leads_none lead (from + 1) n actor rest (omega (arith, low)) own
 
--- a pass's own among leads: its lead, which is empty behind the last
+-- a pass's own among leads: its lead, which is empty after the last
 pub leads_own : (lead : ℕ → List Acted) (from n p : ℕ) (rest : List Acted) → from ≤ p → (from + n ≤ p → lead p ≡ []) → ((b : ℕ) → AllOf (b + 1) (lead b)) → own_entries (p + 1) (leads lead from n ++ rest) ≡ lead p ++ own_entries (p + 1) rest
 leads_own lead from zero p rest low none own = rw (none (omega (arith, low))) refl
 leads_own lead from (suc n) p rest low none own = elim (cases_Bool (from == p)) [
@@ -53,7 +53,7 @@ early_more : (above : ℕ) (before : List Acted) → AllEarly above before → A
 early_more above [] early = tt
 early_more above (x ∷ xs) early = ((early.0.0, omega (arith, early.0.1)), early_more above xs early.1)
 
--- entries of one actor without a place stand behind one of its own
+-- entries of one actor without a place stand after one of its own
 block_follows : (actor : ℕ) (previous : Acted) (before block rest : List Acted) → actor_in previous ≡ actor → AllOf actor block → AllByRecursion (λ (x : Acted). key_of x ≡ None) block
     → key_of previous ≡ None → AllEarly (actor + 1) before → ((b : List Acted) → AllEarly (actor + 1) b → UnplacedStand actor_in key_of b rest)
     → UnplacedStand actor_in key_of (previous ∷ before) (block ++ rest)
@@ -61,7 +61,7 @@ block_follows actor previous before [] rest is own none prior early stand = stan
 block_follows actor previous before (x ∷ block) rest is own none prior early stand =
     ((λ h. inl (is ∙ sym own.0)), block_follows actor x (previous ∷ before) block rest own.0 own.1 none.1 none.0 ((prior, omega (arith, is)), early) stand)
 
--- they stand at the beginning behind those of lower actors
+-- they stand at the beginning after those of lower actors
 block_begins : (actor : ℕ) (before block rest : List Acted) → AllOf actor block → AllByRecursion (λ (x : Acted). key_of x ≡ None) block
     → AllEarly actor before → ((b : List Acted) → AllEarly (actor + 1) b → UnplacedStand actor_in key_of b rest)
     → UnplacedStand actor_in key_of before (block ++ rest)

@@ -76,7 +76,7 @@ worker_idles g p first old xs x ran calm idle =
       };
     }
 
--- the policies behind the administrator's entries
+-- the policies after the administrator's entries
 abbrev pub policies_behind : Verdicts → Policies → List Acted → Policies
 policies_behind verdicts policies xs = policies_then verdicts policies (map task_in xs)
 

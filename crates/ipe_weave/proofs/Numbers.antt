@@ -20,7 +20,7 @@ rise_rest : (x : Line) (xs : List Line) → NumbersRise (x ∷ xs) → NumbersRi
 rise_rest x [] rise = tt
 rise_rest x (y ∷ ys) rise = rise.1
 
--- an actor's own behind a line that rises to them
+-- an actor's own after a line that rises to them
 own_behind : (a : ℕ) (x : Line) (xs : List Line) → NumbersRise (x ∷ xs) → NumbersRise (x ∷ own_lines a xs)
 own_behind a x [] rise = tt
 own_behind a x (y ∷ ys) rise = elim (cases_Bool (actor_of y == a)) [

@@ -30,7 +30,7 @@ module _ (commands : CommandsStayOrBegin) (verdicts : Verdicts) (in_epoch : ℕ 
   abbrev g : Founded
   g = founded_run commands verdicts in_epoch none
 
-  -- the policies behind a run's phase
+  -- the policies after a run's phase
   then_run : (machine : Machine) (lines : List Line) → (after_lines verdicts machine lines).policies ≡ policies_then verdicts machine.policies (map task_in (own_entries 0 (entries_of verdicts machine lines)))
   then_run machine lines =
       lines_policies g machine lines

@@ -21,7 +21,7 @@ use Rattle.ipe_weave.proofs.Groups.{EntriesRise, AllCalm}
 abbrev pub at : ℕ → ℕ → ℕ → Key
 at epoch rank within = record { epoch = epoch; rank = rank; within = within }
 
--- From this machine and history on, the entries are what the machine answers, the machine agrees with the history at the end, the claims that come are theirs, and their keys rise behind each key of the epoch that R allows
+-- From this machine and history on, the entries are what the machine answers, the machine agrees with the history at the end, the claims that come are theirs, and their keys rise after each key of the epoch that R allows
 pub record Ran (g : Founded) (R : ℕ → ℕ → Type 0) (machine : Machine) (s t : List Event) (entries : List Acted) : Type 0 where
   pub replies : entries_of g.basis.verdicts machine (map line_in entries) ≡ entries
   pub final : Agree g.basis (after_lines g.basis.verdicts machine (map line_in entries)) (onto s t)
@@ -182,7 +182,7 @@ switch_step g machine s slot e u (Write may asked) reply agree answered active b
 switch_step g machine s slot e u (Read node) reply agree answered active begins = absurd (false≢true active)
 switch_step g machine s slot e u (Hook worker op access) reply agree answered active begins = absurd answered
 
--- behind a key of the epoch a first command belongs
+-- after a key of the epoch a first command belongs
 abbrev pub LaterFirst : ℕ → ℕ → List Acted → Type 0
 LaterFirst rank within [] = Unit {0}
 LaterFirst rank within (x ∷ xs) = (rank < 1) ⊎ ((rank ≡ 1) × (within < x.line.number))
@@ -195,7 +195,7 @@ pub begins-first : (xs : List Acted) → LaterFirst 0 0 xs
 begins-first [] = tt
 begins-first (x ∷ xs) = inl (omega arith)
 
--- before commands: each key of a command, where the first's is behind it
+-- before commands: each key of a command, where the first's is after it
 abbrev pub Ordered : List Acted → ℕ → ℕ → Type 0
 Ordered xs rank within = (rank < 2) × LaterFirst rank within xs
 
@@ -217,7 +217,7 @@ pub record Commanded (g : Founded) (machine : Machine) (s : List Event) (acts : 
   pub numbers : EntriesRise xs
   pub switches : AllZip (BeginsWith g.basis) acts (raised g.basis.verdicts machine.policies (map task_in xs))
 
--- behind an entry that leaves the epoch
+-- after an entry that leaves the epoch
 calmed : (g : Founded) (machine : Machine) (s : List Event) (acts : List Act) (x : Acted) (xs : List Acted) → is_active x ≡ false → Commanded g machine s acts (x ∷ xs) → Commanded g (after_line g.basis.verdicts machine x.line) s acts xs
 calmed g machine s acts x xs calm go =
     let step = calm_step g machine s x.line.task x.reply go.agrees go.ran.0 calm in
@@ -237,7 +237,7 @@ ordered_of : (x : Acted) (xs behind : List Acted) → LaterFirst 1 x.line.number
 ordered_of x [] behind h = tt
 ordered_of x (y ∷ ys) behind h = h
 
--- commands that leave the epoch, before entries that begin behind them
+-- commands that leave the epoch, before entries that begin after them
 pub ran_calms : (g : Founded) (machine : Machine) (s t : List Event) (acts : List Act) (entries xs behind : List Acted) → AllCalm xs → Commanded g machine s acts (xs ++ behind)
     → Ran g (Counted s) (after_lines g.basis.verdicts machine (map line_in xs)) s t entries
     → Ran g (Ordered xs) machine s t (xs ++ entries)

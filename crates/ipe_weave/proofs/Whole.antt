@@ -48,7 +48,7 @@ then_own g policies (x ∷ xs) = elim (cases_Bool (actor_in x == 0)) [
   | inr is ↦ rw is (ap (λ (p : Policies). policies_then g.basis.verdicts p (map task_of (map line_in xs))) (other_task g policies [] x.line.task is).1 ∙ then_own g policies xs)
 ]
 
--- the policies of the machine behind a task
+-- the policies of the machine after a task
 hook_policies : (g : Founded) (machine : Machine) (worker : ℕ) (op : Option Op) (access : Access) → (after_task g.basis.verdicts machine (Hook worker op access)).policies ≡ machine.policies
 hook_policies g machine worker None access = refl
 hook_policies g machine worker (Some op) access = (claim_counts g.basis.verdicts machine (worker - 1) (active_entry machine.policies)).0

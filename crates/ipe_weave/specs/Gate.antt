@@ -32,7 +32,7 @@ image_at slot h = if slot == 0 then None else image_in (region slot h)
 abbrev pub image_of : Option state.Loaded → Option ImageParts
 image_of entry = option_map parts_in entry
 
--- the ruling of a claim behind a history, by the image that is found
+-- the ruling of a claim after a history, by the image that is found
 abbrev pub ruling_by_image : List Event → Option ImageParts → Op → Context → CoreRuling
 ruling_by_image h None op context = ruling_unruled (machine_at h)
 ruling_by_image h (Some parts) op context =
@@ -57,7 +57,7 @@ record_by_image h (Some parts) access (Some op) =
     (decision_in parts op access.context)
     else None
 
--- what a claim behind a history is answered by the image that is found
+-- what a claim after a history is answered by the image that is found
 abbrev pub claimed_by_image : List Event → Option ImageParts → Op → Access → LineReply
 claimed_by_image h parts op access =
     ruled (ruling_by_image h parts op access.context)

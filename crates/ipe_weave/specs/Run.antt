@@ -22,7 +22,7 @@ machine_at h = record {
   held = [];
 }
 
--- what a claim behind a history is answered by this entry
+-- what a claim after a history is answered by this entry
 abbrev pub claimed_by : List Event → Option Loaded → Op → Access → LineReply
 claimed_by h entry op access =
     ruled (ruling_at (machine_at h) entry op access.context)

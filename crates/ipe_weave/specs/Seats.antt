@@ -1,4 +1,4 @@
--- What a run of one phase says of each one's seat: what it had seen before its lines, and what it has seen behind them.
+-- What a run of one phase says of each one's seat: what it had seen before its lines, and what it has seen after them.
 use Rattle.std.specs.Prelude.{◌≡◌, ℕ, ◌+◌, ◌<◌, ◌≤◌, List, [], ◌∷◌, map}
 use Rattle.std.specs.List.{AllZip}
 use Rattle.ipe_machine.specs.Policies.{Policies}
@@ -43,7 +43,7 @@ pub record PhaseMet (basis : Basis) (workers : ℕ) (policies : Policies) (befor
   pub all : (actor : ℕ) → map line_in (own_entries actor entries) ≡ own_lines actor lines
   pub numbers : NumbersRise (own_lines 0 lines)
 
--- the policies behind phases
+-- the policies after phases
 abbrev pub policies_through : Verdicts → Policies → List (List Acted) → Policies
 policies_through verdicts policies [] = policies
 policies_through verdicts policies (entries ∷ phases) =

@@ -26,7 +26,7 @@ has_act (Hook worker op access) reply = is_some op
 abbrev pub is_active : Acted → Bool
 is_active entry = has_act entry.line.task entry.reply
 
--- a hook's reply is that to a claim behind this history
+-- a hook's reply is that to a claim after this history
 abbrev pub AnsweredAt : (basis : Basis) → List Event → Task → LineReply → Type 0
 AnsweredAt basis h (Write may asked) reply = ⊥
 AnsweredAt basis h (Read node) reply = ⊥

@@ -15,7 +15,7 @@ may_of (Write may asked) = may
 may_of (Read node) = true
 may_of (Hook worker op access) = true
 
--- what is told of a line of this phase with its reply, and of what the file behind it came to, where one was read
+-- what is told of a line of this phase with its reply, and of what the file after it came to, where one was read
 abbrev pub told_entry : ℕ → Option Content → Line → LineReply → Entry
 told_entry phase content line (wrote epoch switched answer records) =
     entry.Write phase line.number (may_of line.task) (code_of answer) epoch switched records

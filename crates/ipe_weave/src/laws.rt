@@ -58,7 +58,7 @@ pub fn gate_run_can_be_printed()
 }
 
 /// The machine's replies are of the kinds of their lines, and each one's own entries are of its own lines. Where that is
-/// so, what is told of lines that are printed in such an order is so too, whatever the files behind hooks came to; and
+/// so, what is told of lines that are printed in such an order is so too, whatever the files after hooks came to; and
 /// where the lines' numbers rise, each one's rise there.
 pub fn told_entries_are_printed()
     ensures fits { (verdicts : _) (machine : _) (lines : _) → AllByRecursion IsFit (entries_of verdicts machine lines) }

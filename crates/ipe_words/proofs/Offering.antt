@@ -17,7 +17,7 @@ Appends-twice None now next front part a b = tt
 Appends-twice (Some text) now next front part a b =
     known now next (text ++ front) part a b ∙ ap Some (append_assoc text front part)
 
--- a call that took n bytes leaves the rest behind them
+-- a call that took n bytes leaves the rest after them
 pub Wrote-more : (before now next : Option (List ℕ)) (all rest : List ℕ) (n : ℕ) → Wrote before now all rest → Appends now next (take n rest) → Wrote before next all (drop n rest)
 Wrote-more before now next all rest n wrote a =
     let front : List ℕ = wrote.0 in

@@ -7,7 +7,7 @@ use Rattle.ipe_words.specs.Source.{Gives, GivesTold, LeavesRest}
 abbrev pub Took : Option (List ℕ) → Option (List ℕ) → List ℕ → Type 0
 Took before now bytes = IfSome before (λ left. (rest : List ℕ) × (now ≡ Some rest) × (left ≡ bytes ++ rest))
 
--- a call that gave n bytes behind these leaves a rest of what was there
+-- a call that gave n bytes after these leaves a rest of what was there
 pub LeavesRest-from_took : (before now next : Option (List ℕ)) (bytes buf : List ℕ) (n : ℕ) → Took before now bytes → GivesTold now next buf n → LeavesRest before next
 LeavesRest-from_took None now next bytes buf n took gives = tt
 LeavesRest-from_took (Some left) now next bytes buf n took gives =

@@ -10,7 +10,7 @@ const COMMENT: &str = "# A line of 64 bytes, with the line feed that stands at i
 
 const TRUSTED: &str = "mark policy trusted text w\n";
 
-/// A file that loads one text: behind a header and a default so many times a line, and a last one. A mark may trust it.
+/// A file that loads one text: after a header and a default so many times a line, and a last one. A mark may trust it.
 fn loading(
     alloc: Global,
     line: &str,
@@ -76,7 +76,7 @@ fn a_text_is_too_wide_or_too_big(rt: HostRuntime) -> Result<(), Fail> {
     Ok(())
 }
 
-/// Policies of so many names are loaded, one behind the other.
+/// Policies of so many names are loaded, one after the other.
 fn loading_each(alloc: Global, policies: u32) -> Result<String, AllocError> {
     let mut text = String::from_str(alloc, HEAD)?;
     for number in 0..policies {

@@ -174,7 +174,7 @@ fn other_words_are_refused(rt: HostRuntime) -> Result<(), Fail> {
     Ok(())
 }
 
-/// What stands before the hook line of a request file whose policy has this rule behind its default.
+/// What stands before the hook line of a request file whose policy has this rule after its default.
 fn with_rule(alloc: Global, rule: &str, hook: &str) -> Result<String, AllocError> {
     let head = format!(in alloc;
         "ipe-requests 1\nworkers 1\ntext a 3\npolicy_name=a policy_version=1.0.0\nDEFAULT action=DENY\n{rule}\ntext init 1\nhello\n"

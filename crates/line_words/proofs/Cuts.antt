@@ -20,7 +20,7 @@ at_no_place : (test : Bool) (place : ℕ) → cond test (Some place) None ≡ No
 at_no_place true place e = cc
 at_no_place false place e = refl
 
--- the piece before the first line feed, and the pieces behind it
+-- the piece before the first line feed, and the pieces after it
 pub CutsLine-from_position : (bytes line rest : List ℕ) (end : ℕ) → Some end ≡ position is_line_feed bytes → line ≡ take end bytes → rest ≡ drop (end + 1) bytes → CutsLine bytes line rest
 CutsLine-from_position bytes line rest end e line_is rest_is =
     let found : (ltb (position_or_len is_line_feed bytes) (length bytes) ≡ true) × (position_or_len is_line_feed bytes ≡ end) = at_place (ltb (position_or_len is_line_feed bytes) (length bytes)) (position_or_len is_line_feed bytes) end (sym e) in

@@ -25,7 +25,7 @@ joined [] = []
 joined (word ∷ []) = word
 joined (word ∷ next ∷ words) = word ++ 32 ∷ joined (next ∷ words)
 
--- a text with a line feed behind it
+-- a text with a line feed after it
 abbrev pub line_text : List ℕ → List ℕ
 line_text text = text ++ 10 ∷ []
 

@@ -33,7 +33,7 @@ is_lower byte = nat_le 97 byte && nat_le byte 122
 abbrev pub is_lower_hex : ℕ → Bool
 is_lower_hex byte = is_digit byte || (nat_le 97 byte && nat_le byte 102)
 
--- what decimal digits stand for, behind a number that stands before them
+-- what decimal digits stand for, after a number that stands before them
 abbrev pub digits_onto : ℕ → List ℕ → ℕ
 digits_onto before [] = before
 digits_onto before (digit ∷ digits) = digits_onto (before * 10 + (digit - 48)) digits

@@ -30,7 +30,7 @@ fn spelled(bytes: &[u8], max: u64) -> Option<u64>
     Some(value)
 }
 
-// The number with one more digit behind it. It ends a long input early, since the number soon passes any `max`.
+// The number with one more digit after it. It ends a long input early, since the number soon passes any `max`.
 fn with_digit(value: u64, byte: u8, max: u64) -> Option<u64>
     ensures { SomeIff result ((48 ≤ byte) × (byte ≤ 57) × (value * 10 + (byte - 48) ≤ max))
         (value * 10 + (byte - 48)) }

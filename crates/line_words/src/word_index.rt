@@ -50,7 +50,7 @@ impl WordIndex {
         self.words.get_index_of(word)
     }
 
-    /// Adds the word behind the others. Where memory runs out, the words stay as they were.
+    /// Adds the word after the others. Where memory runs out, the words stay as they were.
     pub fn add(&mut self, alloc: Global, word: &[u8]) -> Result<(), AllocError>
         requires new { position (is_text word.now) self.old ≡ None }
         ensures added { OnOk result (self.new ≡ self.old ++ word.now ∷ []) }

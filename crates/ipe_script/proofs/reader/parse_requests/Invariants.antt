@@ -4,7 +4,7 @@ use Rattle.line_words.specs.Lines.{is_line_feed}
 use Rattle.ipe_script.specs.Grammar.{requests_of, requests_from}
 use Rattle.ipe_script.proofs.reader.parse_requests.Given as goal
 
--- what the file asks is what its rest asks behind the lines so far
+-- what the file asks is what its rest asks after the lines so far
 abbrev pub invariant-loop-line : goal.invariant-loop-line
 invariant-loop-line l = record {
   asks : requests_of l.bytes ≡ requests_from l.reader l.number (slice_split is_line_feed l.rest);
