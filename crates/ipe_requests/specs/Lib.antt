@@ -6,4 +6,5 @@ pub mod Reading
 pub mod Requests
 pub mod Spelling
 pub mod Answers
+pub mod Rules
 pub mod Law

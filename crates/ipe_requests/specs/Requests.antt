@@ -1,5 +1,7 @@
 -- What a request file declares and asks.
-use Rattle.std.specs.Prelude.{ℕ, List, Result, Ok, Err}
+use Rattle.std.specs.Prelude.{ℕ, List, Option, Result, Ok, Err}
+use Rattle.std.specs.List.{find}
+use Rattle.line_words.specs.Words.{is_text}
 use Rattle.ipe_requests.specs.declared.script.TextLine.{TextLine}
 use Rattle.ipe_requests.specs.declared.script.VolumeLine.{VolumeLine}
 use Rattle.ipe_requests.specs.declared.script.FileLine.{FileLine}
@@ -19,6 +21,18 @@ pub record Script : Type 0 where
   pub seals : List SealLine
   pub marks : List MarkLine
   pub phases : List Phase
+
+-- the text that is declared under a name
+abbrev pub text_of : Script → List ℕ → Option TextLine
+text_of script name = find (λ (text : TextLine). is_text name text.id) script.texts
+
+-- the volume that is declared under a name
+abbrev pub volume_of : Script → List ℕ → Option VolumeLine
+volume_of script name = find (λ (volume : VolumeLine). is_text name volume.id) script.volumes
+
+-- the file that is declared under a path
+abbrev pub file_of : Script → List ℕ → Option FileLine
+file_of script path = find (λ (file : FileLine). is_text path file.path) script.files
 
 -- what lines come to, as what they declare and ask
 abbrev pub script_of : Known → Script
