@@ -3,12 +3,15 @@ use Rattle.std.proofs.Common.{◌≡◌, ℕ, ◌<◌, ◌==◌, ◌⊎◌, inl,
 use Rattle.std.specs.List.{AllByRecursion, filter_map, cons_option}
 use Rattle.std.specs.Option.{option_or}
 use Rattle.std.proofs.lemmas.Bool.{eq-eqb, eqb-true, cases_Bool}
-use Rattle.std.proofs.lemmas.List.Sorted.{Contains-permutation, IsPermutation-sym}
+use Rattle.std.specs.List.Sorted.{IsPermutation}
+use Rattle.std.proofs.lemmas.List.Sorted.{IsPermutation-sym, IsPermutation-trans}
 use Rattle.ipe_transcript.specs.Keys.{Key, IsBefore, Rises, own_of, FollowsItsOwn, StandsAtTheBeginning, UnplacedStand, AreInPlace, ArePrinted}
-use Rattle.ipe_transcript.specs.Filing.{latest_key, filed_key, filed, IsKeyBefore, IsFiledBefore, StandInOrder, LinesRise, AreFiled}
+use Rattle.ipe_transcript.specs.Filing.{latest_key, filed_key, filed, IsKeyBefore, IsFiledBefore, LinesRise, AreFiled}
 use Rattle.ipe_transcript.proofs.Rising.{before-trans, before-irrefl}
 use Rattle.ipe_transcript.proofs.Once.{own-first, own-skip}
-use Rattle.ipe_transcript.proofs.Sorting.{In, sorted_once, Linked, in_order, same_in, in_of_Contains, Contains_of_in}
+use Rattle.ipe_transcript.proofs.Sorting.{In, Ascends, sorted_once, Linked, in_order, in_of_permutation}
+use Rattle.ipe_transcript.proofs.Apart.{Apart, ascend_apart, apart_permutation, ascend_from_apart}
+use Rattle.ipe_transcript.proofs.Permuted.{own_permutes}
 
 -- keys by which entries are filed are in a strict order
 key_irrefl : (a : Option Key) → IsKeyBefore a a → ⊥
@@ -187,7 +190,7 @@ module _ {X : Type 0} (actor line : X → ℕ) (key : X → Option Key) where
   none_or None = refl
   none_or (Some k) = refl
 
-  filed_in_order : (printed : List X) → AreInPlace actor key printed → OwnRise printed → StandInOrder Before (filed actor key [] printed)
+  filed_in_order : (printed : List X) → AreInPlace actor key printed → OwnRise printed → Ascends Before (filed actor key [] printed)
   filed_in_order [] is rise = tt
   filed_in_order (x ∷ xs) is rise =
       in_order Before filed_irrefl filed_trans (filed actor key [] (x ∷ xs))
@@ -196,13 +199,14 @@ module _ {X : Type 0} (actor line : X → ℕ) (key : X → Option Key) where
   -- so entries that are filed, and stand so, are as they are printed
   pub filing_prints : (entries ordered printed : List X) → AreFiled actor line key entries ordered → ArePrinted actor key entries printed → OwnRise printed → ordered ≡ printed
   filing_prints entries ordered printed are is rise =
-      let own : (a : ℕ) → own_of actor_of_filed a (filed actor key [] entries) ≡ own_of actor_of_filed a (filed actor key [] printed) =
-      λ a. own_filed a [] entries ∙ ap (filed_own None) (sym (is.own a)) ∙ sym (own_filed a [] printed) in
-      let there : (z : Option Key × X) → In z are.by → In z (filed actor key [] printed) =
-      λ z within. same_in actor_of_filed (filed actor key [] entries) (filed actor key [] printed) own z
-      (in_of_Contains (filed actor key [] entries) z (Contains-permutation are.by (filed actor key [] entries) z (IsPermutation-sym (filed actor key [] entries) are.by are.same) (Contains_of_in are.by z within))) in
-      let back : (z : Option Key × X) → In z (filed actor key [] printed) → In z are.by =
-      λ z within. in_of_Contains are.by z (Contains-permutation (filed actor key [] entries) are.by z are.same
-      (Contains_of_in (filed actor key [] entries) z (same_in actor_of_filed (filed actor key [] printed) (filed actor key [] entries) (λ a. sym (own a)) z within))) in
-      let same : are.by ≡ filed actor key [] printed = sorted_once Before filed_irrefl filed_trans are.by (filed actor key [] printed) are.in_order (filed_in_order printed is.in_place rise) there back in
+      let own : (a : ℕ) → own_of actor_of_filed a (filed actor key [] printed) ≡ own_of actor_of_filed a (filed actor key [] entries) =
+      λ a. own_filed a [] printed ∙ ap (filed_own None) (is.own a) ∙ sym (own_filed a [] entries) in
+      let moved : IsPermutation (filed actor key [] printed) are.by =
+      IsPermutation-trans (filed actor key [] printed) (filed actor key [] entries) are.by (own_permutes actor_of_filed (filed actor key [] printed) (filed actor key [] entries) own) are.same in
+      let ascend : Ascends Before (filed actor key [] printed) = filed_in_order printed is.in_place rise in
+      let apart : Apart Before are.by = apart_permutation Before (filed actor key [] printed) are.by moved (ascend_apart Before (filed actor key [] printed) ascend) in
+      let same : are.by ≡ filed actor key [] printed =
+      sorted_once Before filed_irrefl filed_trans are.by (filed actor key [] printed) (ascend_from_apart Before are.by are.in_order apart) ascend
+      (in_of_permutation are.by (filed actor key [] printed) (IsPermutation-sym (filed actor key [] printed) are.by moved))
+      (in_of_permutation (filed actor key [] printed) are.by moved) in
       are.ordered_are ∙ ap (map (λ (x : Option Key × X). x.1)) same ∙ filed_entries [] printed

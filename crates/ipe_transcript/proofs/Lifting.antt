@@ -6,19 +6,19 @@ use Rattle.ipe_transcript.proofs.Once.{own-first, own-skip}
 
 -- an actor's first own entry, taken out of a list
 module _ {X : Type 0} (actor : X → ℕ) where
-  abbrev no_key : X → Option Key
+  abbrev pub no_key : X → Option Key
   no_key x = None
 
-  abbrev without_first : ℕ → List X → List X
+  abbrev pub without_first : ℕ → List X → List X
   without_first a [] = []
   without_first a (x ∷ xs) = cond (actor x == a) xs (x ∷ without_first a xs)
 
-  abbrev rest_of : List X → List X
+  abbrev pub rest_of : List X → List X
   rest_of [] = []
   rest_of (x ∷ xs) = xs
 
   -- its own are then the rest, and the others' are as they were
-  without_own : (a : ℕ) (xs : List X) → own_of actor a (without_first a xs) ≡ rest_of (own_of actor a xs)
+  pub without_own : (a : ℕ) (xs : List X) → own_of actor a (without_first a xs) ≡ rest_of (own_of actor a xs)
   without_own a [] = refl
   without_own a (x ∷ xs) = by (actor x == a) refl (without_own a xs)
     where
@@ -26,7 +26,7 @@ module _ {X : Type 0} (actor : X → ℕ) where
       by true is rest = refl
       by false is rest = own-skip actor no_key a x (without_first a xs) is ∙ rest
 
-  without_other : (a b : ℕ) (xs : List X) → (a == b) ≡ false → own_of actor b (without_first a xs) ≡ own_of actor b xs
+  pub without_other : (a b : ℕ) (xs : List X) → (a == b) ≡ false → own_of actor b (without_first a xs) ≡ own_of actor b xs
   without_other a b [] differ = refl
   without_other a b (x ∷ xs) differ = by (actor x == a) refl (without_other a b xs differ)
     where

@@ -3,9 +3,13 @@ use Rattle.std.specs.Prelude.{slice_index_or}
 use Rattle.std.proofs.Common.{◌≡◌, ℕ, zero, suc, ◌<◌, ◌==◌, ◌⊎◌, inl, inr, Bool, true, false, cond, List, [], ◌∷◌, length, refl, sym, ap, subst, ◌∙◌, arith}
 use Rattle.std.specs.List.{AllByRecursion}
 use Rattle.std.specs.List.{Contains}
-use Rattle.std.proofs.lemmas.Bool.{eqb-true, eq-eqb, cases_Bool}
-use Rattle.ipe_transcript.specs.Keys.{own_of}
-use Rattle.ipe_transcript.specs.Filing.{StandInOrder}
+use Rattle.std.specs.List.Sorted.{IsPermutation}
+use Rattle.std.proofs.lemmas.List.Sorted.{Contains-permutation}
+
+-- each stands before all that follow it
+abbrev pub Ascends : {P : Type 0} → (P → P → Type 0) → List P → Type 0
+Ascends R [] = Unit {0}
+Ascends R (x ∷ xs) = AllByRecursion (R x) xs × Ascends R xs
 
 -- an element of a list
 abbrev pub In : {P : Type 0} → P → List P → Type 0
@@ -29,7 +33,7 @@ module _ {P : Type 0} (R : P → P → Type 0) (irrefl : (x : P) → R x x → �
   heads x y xs ys above_x above_y (inr within) (inr there) =
       absurd (irrefl x (trans x y x (all_in (R x) y xs above_x there) (all_in (R y) x ys above_y within)))
 
-  pub sorted_once : (xs ys : List P) → StandInOrder R xs → StandInOrder R ys → ((z : P) → In z xs → In z ys) → ((z : P) → In z ys → In z xs) → xs ≡ ys
+  pub sorted_once : (xs ys : List P) → Ascends R xs → Ascends R ys → ((z : P) → In z xs → In z ys) → ((z : P) → In z ys → In z xs) → xs ≡ ys
   sorted_once [] [] up_x up_y there back = refl
   sorted_once [] (y ∷ ys) up_x up_y there back = absurd (back y (inl refl))
   sorted_once (x ∷ xs) [] up_x up_y there back = absurd (there x (inl refl))
@@ -55,39 +59,13 @@ module _ {P : Type 0} (R : P → P → Type 0) (irrefl : (x : P) → R x x → �
       further [] all = tt
       further (z ∷ zs) all = (trans x y z linked.0 all.0, further zs all.1)
 
-  pub in_order : (xs : List P) → Linked xs → StandInOrder R xs
+  pub in_order : (xs : List P) → Linked xs → Ascends R xs
   in_order [] linked = tt
   in_order (x ∷ []) linked = (tt, tt)
   in_order (x ∷ y ∷ xs) linked = (linked_above x (y ∷ xs) linked, in_order (y ∷ xs) linked.1)
 
--- elements of a list and of an actor's own
-module _ {X : Type 0} (actor : X → ℕ) where
-  in_own : (z : X) (xs : List X) → In z xs → In z (own_of actor (actor z) xs)
-  in_own z [] there = absurd there
-  in_own z (x ∷ xs) (inl same) =
-      let is : (actor x == actor z) ≡ true = eq-eqb (actor x) (actor z) (ap actor same) in
-      rw is (inl same)
-  in_own z (x ∷ xs) (inr there) = by (actor x == actor z) (in_own z xs there)
-    where
-      by : (b : Bool) → In z (own_of actor (actor z) xs) → In z (cond b (x ∷ own_of actor (actor z) xs) (own_of actor (actor z) xs))
-      by true within = inr within
-      by false within = within
-
-  own_in : (a : ℕ) (z : X) (xs : List X) → In z (own_of actor a xs) → In z xs
-  own_in a z [] there = there
-  own_in a z (x ∷ xs) there = by (actor x == a) (own_in a z xs) there
-    where
-      by : (b : Bool) → (In z (own_of actor a xs) → In z xs) → In z (cond b (x ∷ own_of actor a xs) (own_of actor a xs)) → In z (x ∷ xs)
-      by true rest (inl same) = inl same
-      by true rest (inr within) = inr (rest within)
-      by false rest within = inr (rest within)
-
-  -- who have the same own lists have the same elements
-  pub same_in : (xs ys : List X) → ((a : ℕ) → own_of actor a xs ≡ own_of actor a ys) → (z : X) → In z xs → In z ys
-  same_in xs ys same z there = own_in (actor z) z ys (subst (In z) (same (actor z)) (in_own z xs there))
-
 -- elements in the form of places
-pub in_of_Contains : {P : Type 0} (xs : List P) (z : P) → Contains xs z → In z xs
+in_of_Contains : {P : Type 0} (xs : List P) (z : P) → Contains xs z → In z xs
 in_of_Contains xs z there = go xs there.0 there.1 there.2
   where
     go : {P : Type 0} {z : P} (xs : List P) (k : ℕ) → k < length xs → slice_index_or xs k z ≡ z → In z xs
@@ -95,9 +73,13 @@ in_of_Contains xs z there = go xs there.0 there.1 there.2
     go (x ∷ xs) zero within is = inl is
     go (x ∷ xs) (suc k) within is = inr (go xs k (omega (arith, within)) is)
 
-pub Contains_of_in : {P : Type 0} (xs : List P) (z : P) → In z xs → Contains xs z
+Contains_of_in : {P : Type 0} (xs : List P) (z : P) → In z xs → Contains xs z
 Contains_of_in [] z there = absurd there
 Contains_of_in (x ∷ xs) z (inl same) = (0, omega arith, same)
 Contains_of_in (x ∷ xs) z (inr there) =
     let rest = Contains_of_in xs z there in
     (suc rest.0, omega (arith, rest.1), rest.2)
+
+-- the elements of a list that has those of another in whatever order
+pub in_of_permutation : {P : Type 0} (xs ys : List P) → IsPermutation xs ys → (z : P) → In z xs → In z ys
+in_of_permutation xs ys moved z there = in_of_Contains ys z (Contains-permutation xs ys z moved (Contains_of_in xs z there))

@@ -35,10 +35,10 @@ IsFiledBefore actor line x y =
     IsKeyBefore x.0 y.0
     ⊎ ((x.0 ≡ y.0) × ((actor x.1 < actor y.1) ⊎ ((actor x.1 ≡ actor y.1) × (line x.1 < line y.1))))
 
--- each stands before all that follow it
+-- none that follows another belongs before it
 abbrev pub StandInOrder : {X : Type 0} → (X → X → Type 0) → List X → Type 0
-StandInOrder before [] = Unit {0}
-StandInOrder before (x ∷ xs) = AllByRecursion (before x) xs × StandInOrder before xs
+StandInOrder {X = X} before [] = Unit {0}
+StandInOrder {X = X} before (x ∷ xs) = AllByRecursion (λ (y : X). before y x → ⊥) xs × StandInOrder before xs
 
 -- lines rise from each entry to the next
 abbrev pub LinesRise : {X : Type 0} → (X → ℕ) → List X → Type 0
