@@ -61,14 +61,14 @@ due-step (suc due) known now bytes is ordered e =
     subst (λ (k : Known). Stepped known k (line_text bytes)) (ok-is (with_raw known known.text bytes) now e)
     (raw-step known known.text bytes ordered refl (omega arith) ordered.is_open)
 
-take-step : (known now : Known) (bytes : List ℕ) → Ordered known → take known bytes ≡ Ok now
+pub take-step : (known now : Known) (bytes : List ℕ) → Ordered known → take known bytes ≡ Ok now
     → Stepped known now (line_text bytes)
 take-step known now bytes ordered e =
     let stepped = due-step known.due (counted known) now bytes refl
     (record { later = ordered.later; is_open = ordered.is_open; opened = ordered.opened }) e in
     record { bytes = stepped.bytes; ordered = stepped.ordered }
 
-last-none : (place : Section) (rest : List ℕ) → last_piece place rest ≡ None → (place ≡ section.Ended) × (rest ≡ [])
+pub last-none : (place : Section) (rest : List ℕ) → last_piece place rest ≡ None → (place ≡ section.Ended) × (rest ≡ [])
 last-none section.Ended [] e = (refl, refl)
 last-none section.Start [] e = absurd (cc)
 last-none section.Header [] e = absurd (cc)
@@ -92,17 +92,17 @@ last-none section.Marks (byte ∷ rest) e = absurd (cc)
 last-none section.Phase (byte ∷ rest) e = absurd (cc)
 last-none section.Asked (byte ∷ rest) e = absurd (cc)
 
-end-is : (known last : Known) (o : Option ScriptKind) → end_with known o ≡ Ok last → (o ≡ None) × (known ≡ last)
+pub end-is : (known last : Known) (o : Option ScriptKind) → end_with known o ≡ Ok last → (o ≡ None) × (known ≡ last)
 end-is known last None e = (refl, cc)
 end-is known last (Some fault) e = absurd (cc)
 
 -- a whole file
-record Whole (known last : Known) (bytes : List ℕ) : Type 0 where
-  far : so_far last ≡ so_far known ++ bytes
-  ordered : Ordered last
-  ended : last.section ≡ section.Ended
+pub record Whole (known last : Known) (bytes : List ℕ) : Type 0 where
+  pub far : so_far last ≡ so_far known ++ bytes
+  pub ordered : Ordered last
+  pub ended : last.section ≡ section.Ended
 
-pieces-whole : (known last : Known) (pieces : List (List ℕ)) → Ordered known → read_pieces known pieces ≡ Ok last
+pub pieces-whole : (known last : Known) (pieces : List (List ℕ)) → Ordered known → read_pieces known pieces ≡ Ok last
     → Whole known last (join_with_byte 10 pieces)
 pieces-whole known last [] ordered e = absurd (cc)
 pieces-whole known last (rest ∷ []) ordered e =
@@ -159,7 +159,7 @@ whole-text last ordered ended =
     ∙ ap (λ (b : List ℕ). head_text last.workers ++ b) ending
     ∙ ap (λ (b : List ℕ). b ++ (concat (parts last) ++ end_at (rank last.section))) front
 
-first-ordered : Ordered at_first
+pub first-ordered : Ordered at_first
 first-ordered = record { later = refl; is_open = refl; opened = refl }
 
 -- a file that is read is the spelling of what it comes to

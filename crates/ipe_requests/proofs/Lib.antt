@@ -7,6 +7,10 @@ mod Laws
 mod Pieces
 mod Printed
 mod Results
+mod RuleLists
+mod RuleSteps
+mod RuleWords
+mod Rules
 mod SoFar
 mod Spelled
 mod Tables

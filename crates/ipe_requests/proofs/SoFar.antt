@@ -455,7 +455,7 @@ mark-from known mark stands = (mark-places mark.digest known.section stands.from
 mark-upto : (known : Known) (mark : MarkLine) → Stands known.section (line.Mark mark) → rank known.section ≤ 7
 mark-upto known mark stands = (mark-places mark.digest known.section stands.from stands.upto).1
 
-asked-place : (known : Known) (what : PhaseLine) → Stands known.section (line.Asked what) → rank known.section ≡ 8
+pub asked-place : (known : Known) (what : PhaseLine) → Stands known.section (line.Asked what) → rank known.section ≡ 8
 asked-place known (asked.Write number may node what) stands = write-places what known.section stands.from stands.upto
 asked-place known (asked.Read number node) stands = omega (arith, stands.from, stands.upto)
 asked-place known (asked.Hook number worker what subject path) stands =

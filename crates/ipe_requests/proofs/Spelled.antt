@@ -34,7 +34,7 @@ use Rattle.ipe_requests.proofs.Found.{found-fits}
 
 -- ---- a word by its rule
 
-at_least-is : (low : ℕ) (o : Option ℕ) (n : ℕ) → at_least low o ≡ Some n → o ≡ Some n
+pub at_least-is : (low : ℕ) (o : Option ℕ) (n : ℕ) → at_least low o ≡ Some n → o ≡ Some n
 at_least-is low None n e = e
 at_least-is low (Some m) n e = chosen (nat_le low m) e
   where
@@ -42,7 +42,7 @@ at_least-is low (Some m) n e = chosen (nat_le low m) e
     chosen true e = e
     chosen false e = absurd (cc)
 
-at_most-is : (high : ℕ) (o : Option ℕ) (n : ℕ) → at_most high o ≡ Some n → o ≡ Some n
+pub at_most-is : (high : ℕ) (o : Option ℕ) (n : ℕ) → at_most high o ≡ Some n → o ≡ Some n
 at_most-is high None n e = e
 at_most-is high (Some m) n e = chosen (nat_le m high) e
   where

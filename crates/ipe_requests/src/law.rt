@@ -1,4 +1,8 @@
+ghost use Rattle.std.specs.Prelude.{◌≡◌, ℕ, ◌≤◌, List, length, Ok};
+ghost use Rattle.std.specs.List.{AllByRecursion};
 ghost use Rattle.ipe_requests.specs.Law.{IsOfFile, OneShape, RequestsOrFirstBad};
+ghost use Rattle.ipe_requests.specs.Requests.{Script, requests_of};
+ghost use Rattle.ipe_requests.specs.Rules.{EachLine, HasWorkers, IsFileOf, IsHookOf, IsMarkOf, IsNumbered, IsSealOf, IsWriteOf, PhasesRise, count_lines};
 
 use crate::requests::Requests;
 
@@ -21,3 +25,26 @@ pub fn requests_are_read_of_their_spelling(requests: &Requests)
 {
     let _workers = &requests.workers;
 }
+
+/// Whatever a request file declares and asks keeps the rules of its words: its workers are from 1 to 30; the numbers of a
+/// phase's lines rise; a hook's worker is one of them, and its path that of a declared file; where the bytes of a file are is
+/// declared, and a file of a volume ends within its data blocks; sealed files, marked texts and written texts are declared.
+/// There are no more lines in the phases, and no line has a higher number, than the file has bytes. The call does nothing: its
+/// contract is the law.
+pub fn requests_keep_their_rules()
+    ensures workers { (input : List ℕ) (script : Script) → requests_of input ≡ Ok script → HasWorkers script }
+    ensures rising { (input : List ℕ) (script : Script) → requests_of input ≡ Ok script → PhasesRise script }
+    ensures hooks { (input : List ℕ) (script : Script) → requests_of input ≡ Ok script →
+        EachLine (IsHookOf script) script }
+    ensures files { (input : List ℕ) (script : Script) → requests_of input ≡ Ok script →
+        AllByRecursion (IsFileOf script) script.files }
+    ensures seals { (input : List ℕ) (script : Script) → requests_of input ≡ Ok script →
+        AllByRecursion (IsSealOf script) script.seals }
+    ensures marks { (input : List ℕ) (script : Script) → requests_of input ≡ Ok script →
+        AllByRecursion (IsMarkOf script) script.marks }
+    ensures writes { (input : List ℕ) (script : Script) → requests_of input ≡ Ok script →
+        EachLine (IsWriteOf script) script }
+    ensures few { (input : List ℕ) (script : Script) → requests_of input ≡ Ok script → count_lines script ≤ length input }
+    ensures numbered { (input : List ℕ) (script : Script) → requests_of input ≡ Ok script →
+        EachLine (IsNumbered (length input)) script }
+{}
