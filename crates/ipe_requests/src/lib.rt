@@ -28,7 +28,7 @@ mod word;
 
 pub use law::{
     bytes_are_requests_or_have_a_first_bad_line, requests_are_read_of_their_spelling,
-    words_have_one_shape,
+    requests_keep_their_rules, words_have_one_shape,
 };
 pub use line::ScriptKind;
 pub use print::print_requests;
