@@ -1,5 +1,5 @@
 -- A line that is read declares no name that is declared before.
-use Rattle.std.proofs.Common.{◌≡◌, ℕ, Bool, true, false, cond, List, [], ◌∷◌, Option, Some, None, is_some, Ok, Err, position, refl, ap, ◌∙◌, subst}
+use Rattle.std.proofs.Common.{◌≡◌, ℕ, false, List, [], ◌∷◌, Option, Some, None, is_some, Ok, position, refl, ap, ◌∙◌, subst}
 use Rattle.std.specs.Prelude.{codes}
 use Rattle.line_words.specs.Words.{is_text}
 use Rattle.line_words.specs.Lines.{words_of}
@@ -13,25 +13,11 @@ use Rattle.ipe_requests.specs.declared.line.Line.{Line}
 use Rattle.ipe_requests.specs.Known.{Thing, a_text, a_volume, a_file, a_seal, is_declared, names_of, IsNew}
 use Rattle.ipe_requests.specs.Table.{Rule, New, Unsealed, Cell, Fixed, By, cells, may_follow, ValueOf, Values, line_of}
 use Rattle.ipe_requests.specs.Reading.{and_then, is_name_of, read_word, read_cells, read_shape, read_line, shape_of}
-use Rattle.ipe_requests.proofs.Results.{and_then-is, good, ok-is}
+use Rattle.ipe_requests.proofs.Results.{and_then-is, good, new-ok, ok-is, unsealed-ok}
 
 none-not_some : {A : Type 0} (o : Option A) → is_some o ≡ false → o ≡ None
 none-not_some None e = refl
 none-not_some (Some x) e = absurd (cc)
-
-new-test : (b d : Bool) (word value : List ℕ) → cond b (cond d (Err fault.Twice) (Ok word)) (Err fault.Name) ≡ Ok value
-    → (d ≡ false) × (word ≡ value)
-new-test true true word value e = absurd (cc)
-new-test true false word value e = (refl, cc)
-new-test false d word value e = absurd (cc)
-
-unsealed-test : (b d f : Bool) (word value : List ℕ)
-    → cond b (cond d (Err fault.Twice) (cond f (Ok word) (Err fault.Unknown))) (Err fault.Name) ≡ Ok value
-    → (d ≡ false) × (word ≡ value)
-unsealed-test true true f word value e = absurd (cc)
-unsealed-test true false true word value e = (refl, cc)
-unsealed-test true false false word value e = absurd (cc)
-unsealed-test false d f word value e = absurd (cc)
 
 -- what the word of a rule says is read of that word
 cell-parts : (known : Known) (text : List ℕ) (rule : Rule) (row : List Cell) (words : List (List ℕ))
@@ -53,9 +39,10 @@ new-cell : (known : Known) (thing : Thing) (text : List ℕ) (row : List Cell) (
     → position (is_text values.0) (names_of thing known) ≡ None
 new-cell known thing text row words values e =
     let read = cell-parts known text (New thing) row words values e in
-    let test = new-test (is_name_of thing read.0) (is_declared thing known read.0) read.0 values.0 read.1 in
-    subst (λ (w : List ℕ). position (is_text w) (names_of thing known) ≡ None) test.1
-    (none-not_some (position (is_text read.0) (names_of thing known)) test.0)
+    let test = new-ok (is_name_of thing read.0) (is_declared thing known read.0) read.0 values.0 fault.Twice fault.Name
+    read.1 in
+    subst (λ (w : List ℕ). position (is_text w) (names_of thing known) ≡ None) test.2
+    (none-not_some (position (is_text read.0) (names_of thing known)) test.1)
 
 seal-cell : (known : Known) (text : List ℕ) (row : List Cell) (words : List (List ℕ))
     (values : Values (Fixed text ∷ By Unsealed ∷ row))
@@ -63,10 +50,10 @@ seal-cell : (known : Known) (text : List ℕ) (row : List Cell) (words : List (L
     → position (is_text values.0) known.seals.names ≡ None
 seal-cell known text row words values e =
     let read = cell-parts known text Unsealed row words values e in
-    let test = unsealed-test (is_path read.0) (is_declared a_seal known read.0) (is_declared a_file known read.0) read.0
-    values.0 read.1 in
-    subst (λ (w : List ℕ). position (is_text w) known.seals.names ≡ None) test.1
-    (none-not_some (position (is_text read.0) known.seals.names) test.0)
+    let test = unsealed-ok (is_path read.0) (is_declared a_seal known read.0) (is_declared a_file known read.0) read.0
+    values.0 fault.Twice fault.Unknown fault.Name read.1 in
+    subst (λ (w : List ℕ). position (is_text w) known.seals.names ≡ None) test.3
+    (none-not_some (position (is_text read.0) known.seals.names) test.1)
 
 -- the cells after the first
 abbrev behind : List Cell → List Cell

@@ -7,6 +7,7 @@ mod Laws
 mod Pieces
 mod Printed
 mod Results
+mod RuleKept
 mod RuleLists
 mod RuleSteps
 mod RuleWords

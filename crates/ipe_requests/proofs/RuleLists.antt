@@ -2,6 +2,7 @@
 use Rattle.std.proofs.Common.{◌≡◌, ℕ, suc, ◌<◌, ◌≤◌, Bool, true, false, cond, ◌||◌, List, [], ◌∷◌, ◌++◌, map, Option, Some, None, is_some, position, refl, sym, ap, ◌∙◌, arith}
 use Rattle.std.specs.List.{AllByRecursion, find, list_any, slice_get}
 use Rattle.std.specs.Option.{option_and_then, option_map, option_or}
+use Rattle.std.proofs.lemmas.List.{map_push}
 use Rattle.std.proofs.lemmas.List.Folds.{find-append}
 use Rattle.line_words.specs.Words.{is_text}
 use Rattle.line_words.proofs.Places.{list_any-is_some, position-cons}
@@ -27,14 +28,10 @@ rise-push number most (y ∷ []) x rise within more = (omega (arith, within.0), 
 rise-push number most (y ∷ next ∷ xs) x rise within more =
     (rise.0, rise-push number most (next ∷ xs) x rise.1 within.1 more)
 
-pub map-push : {X Y : Type 0} (f : X → Y) (xs : List X) (x : X) → map f (xs ++ x ∷ []) ≡ map f xs ++ f x ∷ []
-map-push f [] x = refl
-map-push f (y ∷ ys) x = ap (λ zs. f y ∷ zs) (map-push f ys x)
-
 -- names stay those of the things
 pub names-push : {X : Type 0} (key : X → List ℕ) (names : List (List ℕ)) (xs : List X) (x : X) → names ≡ map key xs
     → names ++ key x ∷ [] ≡ map key (xs ++ x ∷ [])
-names-push key names xs x same = ap (λ (ns : List (List ℕ)). ns ++ key x ∷ []) same ∙ sym (map-push key xs x)
+names-push key names xs x same = ap (λ (ns : List (List ℕ)). ns ++ key x ∷ []) same ∙ sym (map_push key xs x)
 
 -- ---- what is found
 

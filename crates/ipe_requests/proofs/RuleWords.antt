@@ -15,7 +15,6 @@ use Rattle.ipe_requests.specs.declared.script.PhaseLine.{PhaseLine}
 use Rattle.ipe_requests.specs.declared.script.PhaseLine.TheVariants as asked
 use Rattle.ipe_requests.specs.declared.line.Shape.{Shape}
 use Rattle.ipe_requests.specs.declared.line.Shape.TheVariants as shape
-use Rattle.ipe_requests.specs.declared.line.ScriptKind.{ScriptKind}
 use Rattle.ipe_requests.specs.declared.line.ScriptKind.TheVariants as fault
 use Rattle.ipe_requests.specs.declared.line.Section.{Section}
 use Rattle.ipe_requests.specs.declared.line.Line.{Line}
@@ -24,9 +23,9 @@ use Rattle.ipe_requests.specs.declared.known.Known.{Known}
 use Rattle.ipe_requests.specs.Words.{at_least, at_most, worker_of}
 use Rattle.ipe_requests.specs.Known.{a_text, a_volume, a_file, a_seal, is_declared}
 use Rattle.ipe_requests.specs.Table.{Rule, Number, Worker, Name, Visible, Comm, Bit, FileKind, Purpose, Verdict, Right, Digits, Content, New, Old, OldOrDash, Unsealed, Cell, Fixed, By, Table, cells, may_follow, ValueOf, Values, line_of}
-use Rattle.ipe_requests.specs.Reading.{and_then, unless, is_name_of, read_word, read_cells, read_shape, read_line, rest, shape_of}
+use Rattle.ipe_requests.specs.Reading.{and_then, is_name_of, read_word, read_cells, read_shape, read_line, rest, shape_of}
 use Rattle.ipe_requests.specs.Rules.{line_number}
-use Rattle.ipe_requests.proofs.Results.{and_then-is, good, ok-is, ok_or-is}
+use Rattle.ipe_requests.proofs.Results.{and_then-is, good, new-ok, ok-is, ok_or-is, old-ok, unless-ok, unsealed-ok}
 use Rattle.ipe_requests.proofs.Spelled.{at_least-is, at_most-is}
 
 -- ---- a word by its rule
@@ -90,30 +89,6 @@ worker-good workers (letter ∷ digits) n e =
     let least : 1 ≤ n = at_least-low 1 (number_of 30 digits) n some in
     (omega (arith, least), at_most-high workers (at_least 1 (number_of 30 digits)) n e)
 
-unless-good : (b : Bool) (word value : List ℕ) (f : ScriptKind) → unless f b word ≡ Ok value → (b ≡ true) × (word ≡ value)
-unless-good true word value f e = (refl, cc)
-unless-good false word value f e = absurd (cc)
-
-new-good : (b d : Bool) (word value : List ℕ) (f g : ScriptKind) → cond b (cond d (Err f) (Ok word)) (Err g) ≡ Ok value
-    → (b ≡ true) × (word ≡ value)
-new-good true true word value f g e = absurd (cc)
-new-good true false word value f g e = (refl, cc)
-new-good false d word value f g e = absurd (cc)
-
-old-good : (b d : Bool) (word value : List ℕ) (f g : ScriptKind) → cond b (cond d (Ok word) (Err f)) (Err g) ≡ Ok value
-    → (b ≡ true) × (d ≡ true) × (word ≡ value)
-old-good true true word value f g e = (refl, refl, cc)
-old-good true false word value f g e = absurd (cc)
-old-good false d word value f g e = absurd (cc)
-
-unsealed-good : (b d k : Bool) (word value : List ℕ) (f g h : ScriptKind)
-    → cond b (cond d (Err f) (cond k (Ok word) (Err g))) (Err h) ≡ Ok value
-    → (b ≡ true) × (k ≡ true) × (word ≡ value)
-unsealed-good true true k word value f g h e = absurd (cc)
-unsealed-good true false true word value f g h e = (refl, refl, cc)
-unsealed-good true false false word value f g h e = absurd (cc)
-unsealed-good false d k word value f g h e = absurd (cc)
-
 dash-good : (known : Known) (dash b d : Bool) (word : List ℕ) (value : Option (List ℕ)) → is_path word ≡ b
     → is_declared a_file known word ≡ d
     → cond dash (Ok None) (cond b (cond d (Ok (Some word)) (Err fault.Unknown)) (Err fault.Name)) ≡ Ok value
@@ -136,11 +111,11 @@ read_word-says known (Number low high) word value e =
 read_word-says known Worker word value e =
     worker-good known.workers word value (ok_or-is (worker_of known.workers word) fault.Number value e)
 read_word-says known Name word value e =
-    let test = unless-good (is_dev_name word) word value fault.Name e in
+    let test = unless-ok (is_dev_name word) word value fault.Name e in
     subst (λ (w : List ℕ). is_dev_name w ≡ true) test.1 test.0
 read_word-says known (Visible most) word value e = tt
 read_word-says known Comm word value e =
-    let test = unless-good (is_comm word) word value fault.Name e in
+    let test = unless-ok (is_comm word) word value fault.Name e in
     subst (λ (w : List ℕ). is_comm w ≡ true) test.1 test.0
 read_word-says known Bit word value e = tt
 read_word-says known FileKind word value e = tt
@@ -150,17 +125,17 @@ read_word-says known Right word value e = tt
 read_word-says known (Digits low high) word value e = tt
 read_word-says known Content word value e = tt
 read_word-says known (New thing) word value e =
-    let test = new-good (is_name_of thing word) (is_declared thing known word) word value fault.Twice fault.Name e in
-    subst (λ (w : List ℕ). is_name_of thing w ≡ true) test.1 test.0
+    let test = new-ok (is_name_of thing word) (is_declared thing known word) word value fault.Twice fault.Name e in
+    subst (λ (w : List ℕ). is_name_of thing w ≡ true) test.2 test.0
 read_word-says known (Old thing) word value e =
-    let test = old-good (is_name_of thing word) (is_declared thing known word) word value fault.Unknown fault.Name e in
+    let test = old-ok (is_name_of thing word) (is_declared thing known word) word value fault.Unknown fault.Name e in
     subst (λ (w : List ℕ). (is_name_of thing w ≡ true) × (is_declared thing known w ≡ true)) test.2 (test.0, test.1)
 read_word-says known OldOrDash word value e =
     dash-good known (is_text (codes "-") word) (is_path word) (is_declared a_file known word) word value refl refl e
 read_word-says known Unsealed word value e =
-    let test = unsealed-good (is_path word) (is_declared a_seal known word) (is_declared a_file known word) word value
+    let test = unsealed-ok (is_path word) (is_declared a_seal known word) (is_declared a_file known word) word value
     fault.Twice fault.Unknown fault.Name e in
-    subst (λ (w : List ℕ). (is_path w ≡ true) × (is_declared a_file known w ≡ true)) test.2 (test.0, test.1)
+    subst (λ (w : List ℕ). (is_path w ≡ true) × (is_declared a_file known w ≡ true)) test.3 (test.0, test.2)
 
 -- ---- the words of a line by its cells
 

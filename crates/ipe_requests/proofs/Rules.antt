@@ -23,7 +23,8 @@ use Rattle.ipe_requests.proofs.SoFar.{IsOpen, Ordered, rank, said-stands}
 use Rattle.ipe_requests.proofs.Files.{end-is, first-ordered, pieces-whole, take-step}
 use Rattle.ipe_requests.proofs.RuleLists.{all-map}
 use Rattle.ipe_requests.proofs.RuleWords.{read_line-good}
-use Rattle.ipe_requests.proofs.RuleSteps.{Keeps, KeptLine, KeptPhase, line-keeps, more-keeps, opened-all, opened-few, raw-keeps}
+use Rattle.ipe_requests.proofs.RuleKept.{Keeps, KeptLine, KeptPhase, more-keeps}
+use Rattle.ipe_requests.proofs.RuleSteps.{line-keeps, opened-all, opened-few, raw-keeps}
 
 -- ---- line by line
 

@@ -27,9 +27,9 @@ use Rattle.ipe_requests.specs.Words.{at_least, at_most, worker_of, kind_of, kind
 use Rattle.ipe_requests.specs.TableWords.{table_of}
 use Rattle.ipe_requests.specs.Known.{a_file, a_seal, is_declared}
 use Rattle.ipe_requests.specs.Table.{Rule, Number, Worker, Name, Visible, Comm, Bit, FileKind, Purpose, Verdict, Right, Digits, Content, New, Old, OldOrDash, Unsealed, Cell, Fixed, By, Table, cells, may_follow, ValueOf, Values, line_of}
-use Rattle.ipe_requests.specs.Reading.{and_then, unless, is_name_of, read_word, read_table, read_cells, spell_word, spell_cells, are_many, may_be, has_form, shape_of, read_shape, read_line}
+use Rattle.ipe_requests.specs.Reading.{and_then, is_name_of, read_word, read_table, read_cells, spell_word, spell_cells, are_many, may_be, has_form, shape_of, read_shape, read_line}
 use Rattle.ipe_requests.specs.Spelling.{shape_for, values_of}
-use Rattle.ipe_requests.proofs.Results.{and_then-is, good, ok-is, ok_or-is}
+use Rattle.ipe_requests.proofs.Results.{and_then-is, good, new-ok, ok-is, ok_or-is, old-ok, unless-ok, unsealed-ok}
 use Rattle.ipe_requests.proofs.Found.{found-fits}
 
 -- ---- a word by its rule
@@ -94,29 +94,6 @@ bytes-is : (word bytes : List ℕ) → bytes_of word ≡ Some bytes → word ≡
 unfolding bytes_of
 bytes-is word bytes e = named-is bytes_word (codes "-") word [] bytes _ refl e (λ e. bytes-some word bytes e)
 
-unless-ok : (b : Bool) (word value : List ℕ) (f : ScriptKind) → unless f b word ≡ Ok value → word ≡ value
-unless-ok true word value f e = cc
-unless-ok false word value f e = absurd (cc)
-
-new-ok : (b d : Bool) (word value : List ℕ) (f g : ScriptKind) → cond b (cond d (Err f) (Ok word)) (Err g) ≡ Ok value
-    → word ≡ value
-new-ok true true word value f g e = absurd (cc)
-new-ok true false word value f g e = cc
-new-ok false d word value f g e = absurd (cc)
-
-known-ok : (b d : Bool) (word value : List ℕ) (f g : ScriptKind)
-    → cond b (cond d (Ok word) (Err f)) (Err g) ≡ Ok value → word ≡ value
-known-ok true true word value f g e = cc
-known-ok true false word value f g e = absurd (cc)
-known-ok false d word value f g e = absurd (cc)
-
-unsealed-ok : (b d k : Bool) (word value : List ℕ) (f g h : ScriptKind)
-    → cond b (cond d (Err f) (cond k (Ok word) (Err g))) (Err h) ≡ Ok value → word ≡ value
-unsealed-ok true true k word value f g h e = absurd (cc)
-unsealed-ok true false true word value f g h e = cc
-unsealed-ok true false false word value f g h e = absurd (cc)
-unsealed-ok false d k word value f g h e = absurd (cc)
-
 dash-ok : (dash b d : Bool) (word : List ℕ) (value : Option (List ℕ)) (f g : ScriptKind) → is_text (codes "-") word ≡ dash
     → cond dash (Ok None) (cond b (cond d (Ok (Some word)) (Err f)) (Err g)) ≡ Ok value → word ≡ path_word value
 dash-ok true b d word value f g is e =
@@ -147,10 +124,10 @@ read_word-spelled known (Number low high) word value small may e =
     (at_least-is low (number_of high word) value (ok_or-is (at_least low (number_of high word)) fault.Number value e))
 read_word-spelled known Worker word value small may e =
     worker-is known.workers word value may (ok_or-is (worker_of known.workers word) fault.Number value e)
-read_word-spelled known Name word value small may e = unless-ok (is_dev_name word) word value fault.Name e
+read_word-spelled known Name word value small may e = (unless-ok (is_dev_name word) word value fault.Name e).1
 read_word-spelled known (Visible most) word value small may e =
-    unless-ok (is_word 1 most is_visible word) word value fault.Name e
-read_word-spelled known Comm word value small may e = unless-ok (is_comm word) word value fault.Name e
+    (unless-ok (is_word 1 most is_visible word) word value fault.Name e).1
+read_word-spelled known Comm word value small may e = (unless-ok (is_comm word) word value fault.Name e).1
 read_word-spelled known Bit word value small may e = bit-is word value (ok_or-is (bit_of word) fault.Number value e)
 read_word-spelled known FileKind word value small may e = kind-is word value (ok_or-is (kind_of word) fault.Name value e)
 read_word-spelled known Purpose word value small may e =
@@ -163,15 +140,15 @@ read_word-spelled known (Digits low high) word value small may e =
 read_word-spelled known Content word value small may e =
     bytes-is word value (ok_or-is (bytes_of word) fault.Hex value e)
 read_word-spelled known (New thing) word value small may e =
-    new-ok (is_name_of thing word) (is_declared thing known word) word value fault.Twice fault.Name e
+    (new-ok (is_name_of thing word) (is_declared thing known word) word value fault.Twice fault.Name e).2
 read_word-spelled known (Old thing) word value small may e =
-    known-ok (is_name_of thing word) (is_declared thing known word) word value fault.Unknown fault.Name e
+    (old-ok (is_name_of thing word) (is_declared thing known word) word value fault.Unknown fault.Name e).2
 read_word-spelled known OldOrDash word value small may e =
     dash-ok (is_text (codes "-") word) (is_path word) (is_declared a_file known word) word value fault.Unknown fault.Name
     refl e
 read_word-spelled known Unsealed word value small may e =
-    unsealed-ok (is_path word) (is_declared a_seal known word) (is_declared a_file known word) word value fault.Twice
-    fault.Unknown fault.Name e
+    (unsealed-ok (is_path word) (is_declared a_seal known word) (is_declared a_file known word) word value fault.Twice
+    fault.Unknown fault.Name e).3
 
 -- ---- the words of a line by its cells
 
