@@ -2,26 +2,16 @@
 use Rattle.std.proofs.Common.{◌≡◌, ℕ, suc, ◌+◌, ◌-◌, ◌<◌, ◌≤◌, ◌⊎◌, inl, inr, ⊎_elim, Bool, true, false, not, List, [], ◌∷◌, length, take, drop, refl, ◌∙◌, ap, arith, one-add, length-take, length-drop, Some, None, position, unwrap_or, add-zero}
 use Rattle.std.specs.List.{before_first, after_first, onto_first, position_or_len}
 use Rattle.std.proofs.Math.ListN.{drop_of_length-le}
-use Rattle.std.proofs.lemmas.Bool.{cond-false, cases_lt, lt-ltb, le-ltb}
+use Rattle.std.proofs.lemmas.Bool.{cases_Bool, cond-false, cases_lt, lt-ltb, le-ltb}
 use Rattle.std.proofs.lemmas.List.{length-take-le}
 use Rattle.std.proofs.lemmas.List.Sums.{prefix_len-le-length}
 use Rattle.ipe_lex.specs.Lines.{PlacedLine, is_in_token, is_separator, goes_on, lines_of, placed_lines, placed_tokens, uncommented}
 use Rattle.line_words.specs.Lines.{is_line_feed}
 
-pub either : (b : Bool) → (b ≡ true) ⊎ (b ≡ false)
-either true = inl refl
-either false = inr refl
-
-pub before-hit : {X : Type 0} (p : X → Bool) (x : X) (xs : List X) → p x ≡ true → before_first p (x ∷ xs) ≡ []
-before-hit p x xs e = rw e
-
-pub after-hit : {X : Type 0} (p : X → Bool) (x : X) (xs : List X) → p x ≡ true → after_first p (x ∷ xs) ≡ xs
-after-hit p x xs e = rw e
-
-pub before-miss : {X : Type 0} (p : X → Bool) (x : X) (xs : List X) → p x ≡ false → before_first p (x ∷ xs) ≡ x ∷ before_first p xs
+before-miss : {X : Type 0} (p : X → Bool) (x : X) (xs : List X) → p x ≡ false → before_first p (x ∷ xs) ≡ x ∷ before_first p xs
 before-miss p x xs e = rw (e, one-add)
 
-pub after-miss : {X : Type 0} (p : X → Bool) (x : X) (xs : List X) → p x ≡ false → after_first p (x ∷ xs) ≡ after_first p xs
+after-miss : {X : Type 0} (p : X → Bool) (x : X) (xs : List X) → p x ≡ false → after_first p (x ∷ xs) ≡ after_first p xs
 after-miss p x xs e =
     let shifted : 1 + position_or_len p xs + 1 ≡ suc (position_or_len p xs + 1) = omega arith in rw (e, shifted)
 
@@ -41,9 +31,9 @@ line_goes_on byte bytes e h =
 -- the first line and the others
 pub lines_of-first : (byte : ℕ) (bytes : List ℕ) → BeginsWithLine (byte ∷ bytes)
 lines_of-first byte [] =
-    ⊎_elim (λ e. rw e) (λ e. line_goes_on byte [] e refl) (either (is_line_feed byte))
+    ⊎_elim (λ e. rw e) (λ e. line_goes_on byte [] e refl) (cases_Bool (is_line_feed byte))
 lines_of-first byte (next ∷ bytes) =
-    ⊎_elim (λ e. rw e) (λ e. line_goes_on byte (next ∷ bytes) e (rw (lines_of-first next bytes))) (either (is_line_feed byte))
+    ⊎_elim (λ e. rw e) (λ e. line_goes_on byte (next ∷ bytes) e (rw (lines_of-first next bytes))) (cases_Bool (is_line_feed byte))
 
 -- a line feed stands after the first line, or no line does
 pub record ByLineFeed (text : List ℕ) : Type 0 where
@@ -88,7 +78,7 @@ placed_tokens-skip start [] = refl
 placed_tokens-skip start (byte ∷ bytes) =
     let n = position_or_len is_in_token bytes in
     let further : start + 1 + n ≡ start + suc n = omega arith in
-    elim (either (is_separator byte)) [
+    elim (cases_Bool (is_separator byte)) [
       | inl parts ↦ rw (parts, one-add, ← further) (placed_tokens-skip (start + 1) bytes)
       | inr stays ↦ rw (stays, add-zero, stays)
     ]
@@ -120,7 +110,7 @@ placed_tokens-first start (byte ∷ bytes) e =
     let stays = in_token (is_separator byte) e in
     let n = position_or_len is_separator bytes in
     let further : start + 1 + n ≡ start + suc n = omega arith in
-    elim (either (goes_on bytes)) [
+    elim (cases_Bool (goes_on bytes)) [
       | inl on ↦ rw (stays, on, placed_tokens-first (start + 1) bytes on, one-add, further)
       | inr ends ↦ rw (stays, ends, stops bytes ends)
     ]
@@ -128,7 +118,7 @@ placed_tokens-first start (byte ∷ bytes) e =
 pub starts-token : (bytes : List ℕ) → position_or_len is_in_token bytes < length bytes → goes_on (drop (position_or_len is_in_token bytes) bytes) ≡ true
 starts-token [] h = absurd (omega arith)
 starts-token (byte ∷ bytes) h =
-    elim (either (is_separator byte)) [
+    elim (cases_Bool (is_separator byte)) [
       | inl parts ↦ rw (parts, one-add) (starts-token bytes (let h' = rw (parts, one-add) at h in omega arith))
       | inr stays ↦ rw (stays, stays)
     ]

@@ -1,11 +1,12 @@
 -- Lines and tokens stand in their text, and without their places are the lines and tokens of the definitions.
 use Rattle.std.proofs.Common.{◌≡◌, ℕ, zero, suc, ◌+◌, ◌-◌, ◌≤◌, inl, inr, true, List, [], ◌∷◌, length, map, take, drop, refl, sym, ◌∙◌, ap, arith, length-take, length-drop, drop-drop}
 use Rattle.std.specs.List.{AllByRecursion, after_first, before_first, enumerate_from, onto_first, position_or_len}
+use Rattle.std.proofs.lemmas.Bool.{cases_Bool}
 use Rattle.std.proofs.lemmas.List.{take-take}
 use Rattle.ipe_lex.specs.Lines.{PlacedToken, goes_on, is_comment_sign, is_separator, lines_of, onto_token, placed_lines, placed_tokens, tokens_of, uncommented}
 use Rattle.line_words.specs.Lines.{is_line_feed}
 use Rattle.ipe_lex.specs.Places.{IsLineOf, IsTokenOf, StandsAt}
-use Rattle.ipe_lex.proofs.Cuts.{cut-cases, either, lines_of-first, placed_tokens-first}
+use Rattle.ipe_lex.proofs.Cuts.{cut-cases, lines_of-first, placed_tokens-first}
 
 all-weaker : {X : Type 0} (P Q : X → Type 0) → ((x : X) → P x → Q x) → (xs : List X) → AllByRecursion P xs → AllByRecursion Q xs
 all-weaker P Q f [] h = tt
@@ -106,9 +107,9 @@ pub tokens_stand : (start : ℕ) (bytes : List ℕ) → AllByRecursion (IsTokenO
 tokens_stand start [] = tt
 tokens_stand start (byte ∷ bytes) =
     let later = tokens_stand (start + 1) bytes in
-    elim (either (is_separator byte)) [
+    elim (cases_Bool (is_separator byte)) [
       | inl parts ↦ rw parts (all-weaker _ _ (IsTokenOf-later start byte bytes) _ later)
-      | inr stays ↦ elim (either (goes_on bytes)) [
+      | inr stays ↦ elim (cases_Bool (goes_on bytes)) [
         | inl on ↦ rw (stays, on) (tokens-onto start byte bytes on later)
         | inr ends ↦ rw (stays, ends) (IsTokenOf-first start 0 byte bytes, all-weaker _ _ (IsTokenOf-later start byte bytes) _ later)
       ]
@@ -122,9 +123,9 @@ pub tokens_without_places : (start : ℕ) (bytes : List ℕ) → map (λ (token 
 tokens_without_places start [] = refl
 tokens_without_places start (byte ∷ bytes) =
     let later = tokens_without_places (start + 1) bytes in
-    elim (either (is_separator byte)) [
+    elim (cases_Bool (is_separator byte)) [
       | inl parts ↦ rw parts later
-      | inr stays ↦ elim (either (goes_on bytes)) [
+      | inr stays ↦ elim (cases_Bool (goes_on bytes)) [
         | inl on ↦ rw (stays, on) (map-onto_token start byte _ ∙ ap (onto_first byte) later)
         | inr ends ↦ rw (stays, ends) (ap (λ (r : List (List ℕ)). (byte ∷ []) ∷ r) later)
       ]

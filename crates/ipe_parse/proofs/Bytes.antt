@@ -1,12 +1,11 @@
 -- Lists of bytes that all pass a test, and how lines and tokens are cut from them.
-use Rattle.std.proofs.Common.{◌≡◌, ℕ, ◌<◌, Bool, true, false, not, ◌&&◌, List, [], ◌∷◌, ◌++◌, length, refl, ap, ◌∙◌, arith, append_assoc, append-nil}
-use Rattle.std.specs.List.{list_all, before_first, after_first, AllByRecursion}
+use Rattle.std.proofs.Common.{◌≡◌, ℕ, ◌+◌, ◌<◌, suc, Bool, true, false, not, ◌&&◌, List, [], ◌∷◌, ◌++◌, length, refl, ap, ◌∙◌, arith, append_assoc, append-nil, one-add}
+use Rattle.std.specs.List.{list_all, before_first, after_first, position_or_len, AllByRecursion}
 use Rattle.std.proofs.lemmas.Bool.{and_parts, and_from, not-true}
 use Rattle.std.proofs.lemmas.Bool.Decides.{nat_tests}
 use Rattle.std.proofs.lemmas.List.Folds.{list_all-append}
 use Rattle.ipe_lex.specs.Lines.{goes_on, is_comment_sign, is_in_token, is_separator, lines_of, tokens_of, uncommented}
 use Rattle.line_words.specs.Lines.{is_line_feed, joined}
-use Rattle.ipe_lex.proofs.Cuts.{before-hit, before-miss, after-hit, after-miss}
 
 -- a byte that can stand in a word of a line: no separator, no line feed and no number sign
 abbrev pub is_plain : ℕ → Bool
@@ -27,6 +26,20 @@ all-weaker p q weaker [] h = refl
 all-weaker p q weaker (x ∷ xs) h =
     let parts = and_parts (p x) (list_all p xs) h in
     and_from (q x) (list_all q xs) (weaker x parts.0) (all-weaker p q weaker xs parts.1)
+
+-- what stands before and after the first byte that passes, where it is the first byte or a later one
+before-hit : (p : ℕ → Bool) (x : ℕ) (xs : List ℕ) → p x ≡ true → before_first p (x ∷ xs) ≡ []
+before-hit p x xs e = rw e
+
+after-hit : (p : ℕ → Bool) (x : ℕ) (xs : List ℕ) → p x ≡ true → after_first p (x ∷ xs) ≡ xs
+after-hit p x xs e = rw e
+
+before-miss : (p : ℕ → Bool) (x : ℕ) (xs : List ℕ) → p x ≡ false → before_first p (x ∷ xs) ≡ x ∷ before_first p xs
+before-miss p x xs e = rw (e, one-add)
+
+after-miss : (p : ℕ → Bool) (x : ℕ) (xs : List ℕ) → p x ≡ false → after_first p (x ∷ xs) ≡ after_first p xs
+after-miss p x xs e =
+    let shifted : 1 + position_or_len p xs + 1 ≡ suc (position_or_len p xs + 1) = omega arith in rw (e, shifted)
 
 -- where nothing passes, the whole list stands before the first that does
 before-none : (p : ℕ → Bool) (xs : List ℕ) → list_all (λ x. not (p x)) xs ≡ true → before_first p xs ≡ xs

@@ -4,7 +4,7 @@ use Rattle.std.specs.List.{AllByRecursion, AllZip}
 use Rattle.std.proofs.lemmas.List.{length-map}
 use Rattle.std.proofs.lemmas.List.Sums.{count_by-le-length, length-filter}
 use Rattle.std.proofs.lemmas.Slice.Zip.{AllZip-long}
-use Rattle.ipe_lex.proofs.Cuts.{either}
+use Rattle.std.proofs.lemmas.Bool.{cases_Bool}
 use Rattle.ipe_lex.specs.Lines.{lines_of, placed_lines}
 use Rattle.ipe_policy.specs.declared.op.Op.{Op}
 use Rattle.ipe_policy.specs.declared.statement.Statement.{Statement}
@@ -73,7 +73,7 @@ record NextSpelled (before : List Statement) (line : SpokenLine) (statement : St
 -- a statement that passed the test for repeated defaults repeats none
 not_twice-parts : (before : List Statement) (r : Result Statement BadKind) (statement : Statement) → not_twice before r ≡ Ok statement → (r ≡ Ok statement) × (repeats_default before statement ≡ false)
 not_twice-parts before (Err kind) statement e = absurd (cc)
-not_twice-parts before (Ok other) statement e = elim (either (repeats_default before other)) [
+not_twice-parts before (Ok other) statement e = elim (cases_Bool (repeats_default before other)) [
   | inl again ↦ absurd (let h = rw again at e in cc)
   | inr free ↦ (let h : ◌≡◌ {A = Result Statement BadKind} (Ok other) (Ok statement) = rw free at e in let same : other ≡ statement = cc in (ap (λ (s : Statement). Ok s) same, ap (repeats_default before) (sym same) ∙ free))
 ]

@@ -3,7 +3,7 @@ use Rattle.std.proofs.Common.{◌≡◌, ℕ, ◌+◌, ◌≤◌, List, [], ◌�
 use Rattle.std.specs.List.{enumerate_from, onto_first}
 use Rattle.line_words.specs.Lines.{is_line_feed}
 use Rattle.ipe_lex.specs.Lines.{lines_of, placed_lines, tokens_of, uncommented}
-use Rattle.ipe_lex.proofs.Cuts.{either}
+use Rattle.std.proofs.lemmas.Bool.{cases_Bool}
 use Rattle.ipe_parse.specs.Reading.{SpokenLine, is_spoken, spoken_lines}
 use Rattle.ipe_parse.specs.Walk.{spoken_of}
 
@@ -28,7 +28,7 @@ onto-few byte n (line ∷ lines) h = omega arith
 lines-few : (text : List ℕ) → length (lines_of text) ≤ length text
 lines-few [] = omega arith
 lines-few (byte ∷ bytes) =
-    elim (either (is_line_feed byte)) [
+    elim (cases_Bool (is_line_feed byte)) [
       | inl ends ↦ rw ends (omega (arith, lines-few bytes))
       | inr stays ↦ rw stays (onto-few byte (length bytes) (lines_of bytes) (lines-few bytes))
     ]

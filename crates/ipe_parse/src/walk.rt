@@ -4,12 +4,13 @@ ghost use Rattle.ipe_parse.specs.Lines.{words};
 ghost use Rattle.ipe_parse.specs.Walk.{TakesSpoken};
 
 use crate::spoken::Spoken;
-use ipe_lex::{Line, LineWalk, tokens};
+use ipe_lex::{Line, LineWalk, stand_in_their_text, tokens};
 use std::alloc::{AllocError, Global};
 
 fn tokens_of<'a>(alloc: Global, line: Line<'a>) -> Result<Vec<&'a [u8]>, AllocError>
     ensures { IfOk result (λ found. words found.items ≡ tokens_of line.entry.bytes.now) }
 {
+    stand_in_their_text();
     let mut found = Vec::new(alloc);
     for token in tokens(line) {
         found.push(token.bytes)?;
