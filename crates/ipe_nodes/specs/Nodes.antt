@@ -1,5 +1,5 @@
 -- The files of securityfs by which an administrator acts: what a write to each asks for, and what a read of each gives.
-use Rattle.std.specs.Prelude.{ℕ, ◌==◌, Bool, codes, if◌then◌else◌, List, take, drop, Option, Some, None, Result, Ok, Err}
+use Rattle.std.specs.Prelude.{ℕ, ◌==◌, Bool, codes, if◌then◌else◌, List, length, take, drop, Option, Some, None, Result, Ok, Err}
 use Rattle.std.specs.declared.vec.Vec.{Vec}
 use Rattle.std.specs.List.{before_first, after_first}
 use Rattle.std.specs.Option.{option_map, ok_or}
@@ -41,13 +41,25 @@ policy_node rest =
     then option_map (node.OfPolicy (before_first is_slash rest)) (leaf_of (after_first is_slash rest))
     else None
 
+-- the folder in which each loaded policy has its own
+abbrev pub policies_folder : List ℕ
+policies_folder = codes "policies/"
+
+-- the path goes into this folder
+abbrev pub is_in : List ℕ → List ℕ → Bool
+is_in folder path = is_text folder (take (length folder) path)
+
+-- what stands after a folder in a path
+abbrev pub path_in : List ℕ → List ℕ → List ℕ
+path_in folder path = drop (length folder) path
+
 -- the node of a path
 unfoldable pub node_of : List ℕ → Option Node
 node_of path =
     if is_text (codes "new_policy") path then Some node.NewPolicy
     else if is_text (codes "enforce") path then Some node.Enforce
     else if is_text (codes "success_audit") path then Some node.SuccessAudit
-    else if is_text (codes "policies/") (take 9 path) then policy_node (drop 9 path)
+    else if is_in policies_folder path then policy_node (path_in policies_folder path)
     else None
 
 -- the act of these bytes at a file of a policy's folder, where it is written
