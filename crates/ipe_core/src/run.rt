@@ -2,7 +2,7 @@ ghost use Rattle.std.specs.Prelude.{◌≡◌, ℕ, IfOk, OnErr, take};
 ghost use Rattle.ipe_machine.specs.Run.{replies, after_all, IsLegal};
 
 use crate::{State, step};
-use ipe_machine::{Events, Replies};
+use ipe_machine::{Events, Replies, runs_go_on};
 use ipe_signer::Signer;
 use std::alloc::{AllocError, Global};
 
@@ -19,6 +19,7 @@ pub fn run_events<S: Signer>(
     ensures err { OnErr result ((k : ℕ)
         × (state.new ≡ after_all (S.verdict_of signer.now) state.old (take k events.now))) }
 {
+    runs_go_on();
     let mut found = Vec::new(alloc);
     for event in events.as_slice() {
         let reply = step(alloc, signer, state, event)?;

@@ -12,4 +12,4 @@ mod law;
 pub use answer::{Done, Refusal};
 pub use command::{Act, Command, Text, Value};
 pub use event::{CoreOutcome, CoreRuling, Event, Events, Place, Replies, Reply};
-pub use law::{active_version_never_falls, commands_stay_or_begin};
+pub use law::{active_version_never_falls, commands_stay_or_begin, runs_go_on};

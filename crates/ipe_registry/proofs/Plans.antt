@@ -1,8 +1,10 @@
 -- How the parts of an answer make the whole.
 use Rattle.std.proofs.Common.{◌≡◌, ℕ, Bool, true, false, cond, List, [], ◌∷◌, ◌++◌, Option, Some, None, Result, Ok, Err, refl, ap, subst, sym, ◌∙◌}
 use Rattle.std.specs.Prelude.{IfOk, not, is_none, is_some, nat_le, length, ◌&&◌, ◌==◌}
+use Rattle.std.specs.List.{AllByRecursion}
 use Rattle.std.specs.Option.{unwrap_or}
-use Rattle.std.specs.Result.{result_ok}
+use Rattle.std.specs.Result.{IsErr, result_ok}
+use Rattle.std.proofs.lemmas.Bool.{false≢true}
 use Rattle.std.specs.declared.alloc.AllocError.{AllocError}
 use Rattle.line_words.specs.Words.{is_text}
 use Rattle.ipe_policy.specs.declared.version.Version.{Version}
@@ -20,11 +22,20 @@ use Rattle.ipe_machine.specs.Policies as state
 use Rattle.ipe_machine.specs.Policies.{Policies, entry_named, entry_version, is_active, policy_in, no_policy}
 use Rattle.ipe_machine.specs.Change.{Change, made, change_of, changed, done_by, Loads, Updates, Activates, Deletes, SetsEnforce, SetsSuccess}
 use Rattle.ipe_machine.specs.Answer.{Verdicts, Case, answer, answer_by, act_answer, after_answer, is_step, text_cases, stale_case, last_epoch, most_loaded}
-use Rattle.ipe_machine.proofs.Answers.{passed_by}
 use Rattle.ipe_registry.specs.declared.change.Plan.{Plan}
 use Rattle.ipe_registry.specs.declared.change.Plan.TheVariants as plan
 use Rattle.ipe_registry.specs.Change.{IsPlan}
 use Rattle.ipe_registry.specs.Parts.{IsPlanOf, text_answer, addition_answer, replacement_answer}
+
+-- what some first cases that only refuse let pass goes on to the cases after them
+passed_by : (cases more : List Case) (one done : Done) → AllByRecursion (λ (case : Case). IsErr case.1) cases → answer_by cases one ≡ Ok one → answer_by (cases ++ more) done ≡ answer_by more done
+passed_by [] more one done refuse is = refl
+passed_by (case ∷ cases) more one done refuse is = go (passed_by cases more one done refuse.1) case.0 case.1 refuse.0 is
+  where
+    go : (answer_by cases one ≡ Ok one → answer_by (cases ++ more) done ≡ answer_by more done) → (test : Bool) (given : Result Done Refusal) → IsErr given → cond test given (answer_by cases one) ≡ Ok one → cond test given (answer_by (cases ++ more) done) ≡ answer_by more done
+    go rest true (Ok did) err is = absurd (false≢true err)
+    go rest true (Err why) err is = cc
+    go rest false given err is = rest is
 
 -- one who may administer gets the answer to the act
 permitted : (verdicts : Verdicts) (policies : Policies) (command : Command) → command.may ≡ true → answer verdicts policies command ≡ act_answer verdicts policies command.act

@@ -16,7 +16,7 @@ returns-in_err-push-clause-err g c =
     let state : c.step.new.state ≡ after_event (g.S.Signer.verdict_of c.args.signer.now) c.loop-event.state c.event-item.result = search rules in
     let reached : c.step.new.state ≡ after_all (g.S.Signer.verdict_of c.args.signer.now) c.args.state.now (take (c.loop-event.event-index + 1) c.args.events.now) =
     subst (λ (events : List Event). c.step.new.state ≡ after_all (g.S.Signer.verdict_of c.args.signer.now) c.args.state.now (take (c.loop-event.event-index + 1) events)) c.as_slice-event-items.ensures
-    (state ∙ after_more (g.S.Signer.verdict_of c.args.signer.now) c.args.state.now c.loop-event.state c.as_slice-event-items.result.now c.loop-event.event-index c.event-item.result within c.event-item.is c.loop-event.invariant.reached) in
+    (state ∙ after_more c.runs_go_on.ensures (g.S.Signer.verdict_of c.args.signer.now) c.args.state.now c.loop-event.state c.as_slice-event-items.result.now c.loop-event.event-index c.event-item.result within c.event-item.is c.loop-event.invariant.reached) in
     on_err_always c.from_residual-in_err-push.result (c.loop-event.event-index + 1, reached)
 
 pub loop-event-preserved : goal.loop-event-preserved
@@ -25,5 +25,5 @@ loop-event-preserved g c =
     let state : c.step.new.state ≡ after_event (g.S.Signer.verdict_of c.args.signer.now) c.loop-event.state c.event-item.result = search rules in
     let items : c.push.new.self.items ≡ c.loop-event.found.items ++ reply_to (g.S.Signer.verdict_of c.args.signer.now) c.loop-event.state c.event-item.result ∷ [] = search rules in
     rw (state, items)
-    (runs_on (g.S.Signer.verdict_of c.args.signer.now) c.args.state.now c.loop-event.state c.as_slice-event-items.result.now c.loop-event.event-index c.event-item.result c.loop-event.found.items
+    (runs_on c.runs_go_on.ensures (g.S.Signer.verdict_of c.args.signer.now) c.args.state.now c.loop-event.state c.as_slice-event-items.result.now c.loop-event.event-index c.event-item.result c.loop-event.found.items
     within c.event-item.is c.loop-event.invariant)
