@@ -1,15 +1,15 @@
 -- Entries that stand as they are filed are in the one order in which they may be printed.
 use Rattle.std.proofs.Common.{◌≡◌, ℕ, ◌<◌, ◌==◌, ◌⊎◌, inl, inr, Bool, true, false, cond, List, [], ◌∷◌, map, Option, Some, None, refl, sym, ap, subst, ◌∙◌, arith}
-use Rattle.std.specs.List.{AllByRecursion, filter_map, cons_option}
+use Rattle.std.specs.List.{filter_map, cons_option}
 use Rattle.std.specs.Option.{option_or}
 use Rattle.std.proofs.lemmas.Bool.{eq-eqb, eqb-true, cases_Bool}
 use Rattle.std.specs.List.Sorted.{IsPermutation}
 use Rattle.std.proofs.lemmas.List.Sorted.{IsPermutation-sym, IsPermutation-trans}
-use Rattle.ipe_transcript.specs.Keys.{Key, IsBefore, Rises, own_of, FollowsItsOwn, StandsAtTheBeginning, UnplacedStand, AreInPlace, ArePrinted}
+use Rattle.ipe_transcript.specs.Keys.{Key, Rises, own_of, FollowsItsOwn, StandsAtTheBeginning, UnplacedStand, AreInPlace, ArePrinted}
 use Rattle.ipe_transcript.specs.Filing.{latest_key, filed_key, filed, IsKeyBefore, IsFiledBefore, LinesRise, AreFiled}
 use Rattle.ipe_transcript.proofs.Rising.{before-trans, before-irrefl}
 use Rattle.ipe_transcript.proofs.Once.{own-first, own-skip}
-use Rattle.ipe_transcript.proofs.Sorting.{In, Ascends, sorted_once, Linked, in_order, in_of_permutation}
+use Rattle.ipe_transcript.proofs.Sorting.{Ascends, sorted_once, Linked, in_order, in_of_permutation}
 use Rattle.ipe_transcript.proofs.Apart.{Apart, ascend_apart, apart_permutation, ascend_from_apart}
 use Rattle.ipe_transcript.proofs.Permuted.{own_permutes}
 

@@ -5,4 +5,7 @@ pub mod Lifting
 pub mod Sorting
 pub mod Apart
 pub mod Permuted
+pub mod Parts
+pub mod Noting
+pub mod Standing
 pub mod Filed

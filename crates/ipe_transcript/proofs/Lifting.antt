@@ -1,6 +1,6 @@
 -- An order of what entries are mapped to, each one's own in that one's order, is the map of such an order of the entries.
 use Rattle.std.proofs.Common.{◌≡◌, ℕ, ◌==◌, inl, inr, Bool, true, false, cond, List, [], ◌∷◌, map, Option, None, refl, sym, ap, subst, ◌∙◌}
-use Rattle.std.proofs.lemmas.Bool.{eqb-true, eqb-false, eq-eqb, ne_eqb, cases_Bool}
+use Rattle.std.proofs.lemmas.Bool.{eqb-true, eq-eqb, cases_Bool}
 use Rattle.ipe_transcript.specs.Keys.{Key, own_of}
 use Rattle.ipe_transcript.proofs.Once.{own-first, own-skip}
 

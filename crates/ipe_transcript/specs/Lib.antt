@@ -2,3 +2,5 @@ pub mod Lines
 pub mod Keys
 pub mod Entries
 pub mod Filing
+pub mod Order
+pub mod Text

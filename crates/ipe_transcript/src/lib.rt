@@ -2,13 +2,19 @@
 #![tactic(auto)]
 
 mod entry;
+mod filing;
+mod key;
 mod laws;
 mod printing;
+mod text;
 pub mod transcript;
 
 pub use entry::Entry;
 pub use laws::{entries_are_printed_in_one_order, filed_entries_are_printed};
 pub use printing::print_entry;
+pub use text::print_transcript;
 
 #[cfg(test)]
 mod tests;
+#[cfg(test)]
+mod transcript_tests;

@@ -61,14 +61,14 @@ fn append_entry(alloc: Global, out: &mut Vec<u8>, entry: &Entry) -> Result<(), A
     }
 }
 
-fn append_line(out: &mut Vec<u8>, line: &[u8]) -> Result<(), AllocError>
+pub fn append_line(out: &mut Vec<u8>, line: &[u8]) -> Result<(), AllocError>
     ensures { OnOk result (out.new.items ≡ out.old.items ++ line_text line.now) }
 {
     out.extend_from_slice(line)?;
     out.extend_from_slice(b"\n")
 }
 
-fn append_lines(out: &mut Vec<u8>, lines: &[LineBytes]) -> Result<(), AllocError>
+pub fn append_lines(out: &mut Vec<u8>, lines: &[LineBytes]) -> Result<(), AllocError>
     ensures { OnOk result (out.new.items ≡ out.old.items ++ flat_map line_text lines.now) }
 {
     for line in lines {
@@ -77,7 +77,7 @@ fn append_lines(out: &mut Vec<u8>, lines: &[LineBytes]) -> Result<(), AllocError
     Ok(())
 }
 
-fn append_access(out: &mut Vec<u8>, access: &Option<LineBytes>) -> Result<(), AllocError>
+pub fn append_access(out: &mut Vec<u8>, access: &Option<LineBytes>) -> Result<(), AllocError>
     ensures { OnOk result (out.new.items ≡ out.old.items ++ access_line access.now) }
 {
     match access {
@@ -98,7 +98,7 @@ fn push_acted(text: &mut String, line: u32, who: &str, code: i32) -> Result<(), 
     write!(text, "line={line}{who} code={code}")
 }
 
-fn write_text(
+pub fn write_text(
     alloc: Global,
     line: u32,
     may: bool,
@@ -113,7 +113,7 @@ fn write_text(
     Ok(text)
 }
 
-fn read_text(
+pub fn read_text(
     alloc: Global,
     line: u32,
     code: i32,
@@ -152,7 +152,7 @@ fn push_bytes(alloc: Global, text: &mut String, bytes: &[u8]) -> Result<(), Allo
     text.push_str(&digits)
 }
 
-fn hook_text(
+pub fn hook_text(
     alloc: Global,
     line: u32,
     worker: u32,

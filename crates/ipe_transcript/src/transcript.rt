@@ -1,11 +1,17 @@
 //! A transcript: the entries of a request file's phases, in their order.
 // These types stand beside the crate's `Entry` until the replay gives them.
 
+ghost use Rattle.std.specs.Prelude.{◌≡◌, IfOk};
+ghost use Rattle.ipe_transcript.specs.Entries.{actor_of, line_of, phase_of};
+ghost use Rattle.ipe_transcript.specs.Order.{AreOrdered};
+
+use crate::filing::{order_phase, part_by_phase};
 use ipe_audit::{LineBytes, Lines};
 use ipe_machine::Place;
 use ipe_policy::Which;
 use ipe_words::Bytes;
-use line_words::Items;
+use std::alloc::{AllocError, Global};
+use std::marker::Model;
 
 /// What a file that was read after an allowed hook came to.
 #[derive(Debug, Drop)]
@@ -58,5 +64,112 @@ pub enum Entry {
     },
 }
 
-/// Entries, in whatever order.
-pub type Entries = Items<Entry>;
+impl Entry {
+    /// The number of its phase, from 1.
+    pub fn phase(&self) -> u32
+        ensures { result ≡ phase_of self.now }
+    {
+        match self {
+            Entry::Write { phase, .. } | Entry::Read { phase, .. } | Entry::Hook { phase, .. } => {
+                *phase
+            }
+        }
+    }
+
+    /// The number of its line in the request file.
+    pub fn line(&self) -> u32
+        ensures { result ≡ line_of self.now }
+    {
+        match self {
+            Entry::Write { line, .. } | Entry::Read { line, .. } | Entry::Hook { line, .. } =>
+                *line,
+        }
+    }
+
+    /// Who acted: 0 for the administrator, K for worker K.
+    pub fn actor(&self) -> u32
+        ensures { result ≡ actor_of self.now }
+    {
+        match self {
+            Entry::Write { .. } | Entry::Read { .. } => 0,
+            Entry::Hook { worker, .. } => *worker,
+        }
+    }
+}
+
+/// Entries, in whatever order, which contracts see as a list.
+#[derive(Debug, Drop)]
+pub struct Entries {
+    items: Vec<Entry>,
+}
+
+impl Model for Entries {
+    ghost use Rattle.std.specs.Prelude.{List};
+    ghost use Rattle.ipe_transcript.specs.declared.transcript.Entry.{Entry};
+
+    ghost Value = { List Entry };
+
+    ghost view = { λ entries. entries.items.items };
+}
+
+impl Entries {
+    /// These entries.
+    pub fn from_vec(items: Vec<Entry>) -> Entries
+        ensures { result ≡ items.items }
+    {
+        Entries { items }
+    }
+
+    /// The entries, one after another.
+    pub fn as_slice(&self) -> &[Entry]
+        ensures { result.now ≡ self.now }
+    {
+        self.items.as_slice()
+    }
+
+    /// The entries themselves.
+    pub fn into_vec(self) -> Vec<Entry>
+        ensures { result.items ≡ self }
+    {
+        self.items
+    }
+}
+
+/// A transcript: the entries of each phase, from the first on, in the order in which they are printed. Contracts see it as
+/// the list of these lists.
+#[derive(Debug, Drop)]
+pub struct Transcript {
+    phases: Vec<Entries>,
+}
+
+impl Model for Transcript {
+    ghost use Rattle.std.specs.Prelude.{List};
+    ghost use Rattle.ipe_transcript.specs.declared.transcript.Entry.{Entry};
+
+    ghost Value = { List (List Entry) };
+
+    ghost view = { λ transcript. transcript.phases.items };
+}
+
+impl Transcript {
+    /// The entries of phases 1 to `phases`, those of each phase in their order: by epoch; in an epoch the command that
+    /// began it, then the commands that changed neither policy nor switch by line, then the hooks with a claim by count;
+    /// a hook without a claim after its worker's previous entry, or at the phase's beginning. Entries of other phases are
+    /// left out, and a phase may have none.
+    pub fn order(alloc: Global, phases: u32, entries: Entries) -> Result<Transcript, AllocError>
+        ensures { IfOk result (λ transcript. AreOrdered phases entries transcript) }
+    {
+        let mut ordered = Vec::new(alloc);
+        for part in part_by_phase(alloc, phases, entries.into_vec())? {
+            ordered.push(order_phase(alloc, part)?)?;
+        }
+        Ok(Transcript { phases: ordered })
+    }
+
+    /// The entries of each phase, from the first on.
+    pub fn phases(&self) -> &[Entries]
+        ensures { result.now ≡ self.now }
+    {
+        self.phases.as_slice()
+    }
+}
