@@ -12,27 +12,27 @@ use Rattle.ipe_transcript.specs.Keys.{Key, opening_key, command_key, claim_key}
 use Rattle.ipe_transcript.specs.Entries.{actor_of, line_of, key_of, of_phase}
 use Rattle.ipe_transcript.specs.Filing.{AreFiled}
 
--- the key of an epoch and a rank
+-- the key of an epoch and of a rank in it
 abbrev pub ranked_key : ℕ → Rank → Key
 ranked_key epoch rank.Opening = opening_key epoch
 ranked_key epoch (rank.Command line) = command_key epoch line
 ranked_key epoch (rank.Claim count) = claim_key epoch count
 
--- the key that the program keeps
+-- the key that a kept one is
 abbrev pub key_shown : KeptKey → Key
 key_shown key = ranked_key key.epoch key.rank
 
--- a filed entry that the program keeps
+-- a kept entry, with the key by which it is filed
 abbrev pub filed_shown : Filed → Option Key × Entry
 filed_shown filed = (option_map key_shown filed.key, filed.entry)
 
--- the entries in a phase's part, where the phase is told by its place
+-- the entries of the part at this place; past the last part there are none
 abbrev pub part_at : List (Vec Entry Global) → ℕ → List Entry
 part_at [] i = []
 part_at (part ∷ parts) zero = part.items
 part_at (part ∷ parts) (suc i) = part_at parts i
 
--- the list of each phase up to the last has that phase's entries in order; those of other phases are left out
+-- there is a list for each phase up to the last, and it has that phase's entries in order; those of other phases are left out
 pub record AreOrdered (phases : ℕ) (entries : List Entry) (ordered : List (List Entry)) : Type 0 where
   pub count : length ordered ≡ phases
   pub each :

@@ -10,7 +10,7 @@ use Rattle.ipe_transcript.specs.declared.transcript.Entry.TheVariants as entry
 use Rattle.ipe_transcript.specs.Lines.{write_text, read_text, hook_text, access_line}
 use Rattle.line_words.specs.Lines.{line_text}
 
--- where a hash tree is not the one that was hashed
+-- the first block that is not the one that was hashed, and whose tree it is of
 abbrev pub corrupt_text : List ℕ → ℕ → ℕ → List ℕ
 corrupt_text whose level block = codes "content corrupt " ++ whose ++ codes " level=" ++ decimal level ++ codes " block=" ++ decimal block
 
@@ -34,15 +34,15 @@ entry_text (entry.Read phase line code epoch bytes) = line_text (read_text line 
 entry_text (entry.Hook phase line worker code place serial by access content) =
     line_text (hook_text line worker code place serial by) ++ access_line access ++ content_line content
 
--- a phase's number, and its entries
+-- a phase: its number, and its entries
 abbrev pub phase_text : ℕ → List Entry → List ℕ
 phase_text number entries = line_text (codes "phase " ++ decimal number) ++ flat_map entry_text entries
 
--- phases that are numbered from here on
+-- phases one after another, the first of them with this number
 abbrev pub phases_text : ℕ → List (List Entry) → List ℕ
 phases_text number [] = []
 phases_text number (entries ∷ phases) = phase_text number entries ++ phases_text (number + 1) phases
 
--- a whole transcript
+-- a whole transcript: its first line, its phases, and its last line
 abbrev pub transcript_text : List (List Entry) → List ℕ
 transcript_text phases = line_text (codes "ipe-transcript 1") ++ phases_text 1 phases ++ line_text (codes "end")

@@ -13,6 +13,7 @@ pub use entry::Entry;
 pub use laws::{entries_are_printed_in_one_order, filed_entries_are_printed};
 pub use printing::print_entry;
 pub use text::print_transcript;
+pub use transcript::{Content, Entries, Transcript};
 
 #[cfg(test)]
 mod tests;
