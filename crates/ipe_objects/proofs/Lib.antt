@@ -1,0 +1,4 @@
+mod Named
+mod Needed
+mod Standing
+mod Loaded
