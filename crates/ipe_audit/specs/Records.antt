@@ -1,6 +1,5 @@
 -- The lines of audit records (after the records shown in kernel admin-guide/LSM/ipe.rst, without time stamps).
 use Rattle.std.specs.Prelude.{Bool, not, codes, List, ◌++◌, ℕ, Option, Some, None}
-use Rattle.std.specs.Borrow.{Bor}
 use Rattle.hex.specs.Hex.{encode_lower}
 use Rattle.std.specs.Fmt.{decimal}
 use Rattle.std.specs.Option.{option_map}
@@ -24,11 +23,6 @@ abbrev pub load_text : Brief → List ℕ
 load_text policy =
     told (codes "type=1422 policy_name=\"") (codes "\" policy_version=") (codes " policy_digest=sha256:") policy
     ++ codes " auid=4294967295 ses=4294967295 lsm=ipe res=1 errno=0"
-
--- a brief as it is seen through a reference, if there is one
-abbrev pub seen : Option (Bor Brief) → Option Brief
-seen None = None
-seen (Some policy) = Some policy.now
 
 -- the policy that was active, or question marks where none was
 abbrev pub old_text : Option Brief → List ℕ

@@ -1,11 +1,10 @@
 ghost use Rattle.std.specs.Prelude.{◌≡◌, ◌++◌, codes, IfOk, List, ℕ, OnOk, Some};
 ghost use Rattle.std.specs.Fmt.{decimal};
 ghost use Rattle.ipe_policy.specs.declared.evaluation.Context.{Context};
+ghost use Rattle.ipe_policy.specs.declared.statement.Statement.{Statement};
+ghost use Rattle.ipe_policy.specs.Evaluation.{deciding_statement};
 ghost use Rattle.ipe_policy.specs.Spelling.{bit_text, op_word};
-ghost use Rattle.ipe_image.specs.Answer.{IsAnswer, IsHit};
-ghost use Rattle.ipe_image.specs.Decision.{deciding};
-ghost use Rattle.ipe_image.specs.Parts.{ImageParts};
-ghost use Rattle.ipe_image.specs.Reading.{image_in};
+ghost use Rattle.ipe_image.specs.Answer.{IsHit, IsRuling};
 ghost use Rattle.ipe_audit.specs.Records.{access_text, decided_text, hook_word, object_text};
 
 use ipe_image::{Hit, rule_text};
@@ -99,8 +98,8 @@ fn access_by(
     Ok(line)
 }
 
-/// The record of an access, of type 1420, without an end of line. `enforce` is the switch at the claim, and the hit
-/// what the active policy's image answered for the operation.
+/// The record of an access that a policy's deciding statement decided, of type 1420, without an end of line. `enforce` is
+/// the switch at the claim, and the hit what the policy's image answered for the operation.
 pub fn access_line(
     alloc: Global,
     op: Op,
@@ -111,9 +110,8 @@ pub fn access_line(
     hit: &Hit,
 ) -> Result<Vec<u8>, AllocError>
     requires { IsHit op hit.now }
-    ensures { (words : List ℕ) (parts : ImageParts) (context : Context) → image_in words ≡ Some parts →
-        IsAnswer parts op context hit.now →
-        IfOk result (λ line. decided_text op hook enforce subject.now object.now (deciding parts op hit.now.found)
+    ensures { (serial : ℕ) (items : List Statement) (context : Context) → IsRuling serial items op context hit.now →
+        IfOk result (λ line. decided_text op hook enforce subject.now object.now (deciding_statement items op context)
         ≡ Some line.items) }
 {
     let rule = rule_text(alloc, op, hit)?;

@@ -1,5 +1,6 @@
 ghost use Rattle.std.specs.Prelude.{◌≡◌, ◌++◌, IfOk, OnOk, None};
-ghost use Rattle.ipe_audit.specs.Records.{activation_text, enforce_text, load_text, new_text, old_text, seen, told};
+ghost use Rattle.std.specs.Option.{option_copied};
+ghost use Rattle.ipe_audit.specs.Records.{activation_text, enforce_text, load_text, new_text, old_text, told};
 
 use ipe_policy::{Name, Version, bit_text};
 use std::alloc::{AllocError, Global};
@@ -63,7 +64,7 @@ fn append_question_marks(line: &mut Vec<u8>) -> Result<(), AllocError>
 }
 
 fn append_old(alloc: Global, line: &mut Vec<u8>, old: Option<&Brief>) -> Result<(), AllocError>
-    ensures { OnOk result (line.new.items ≡ line.old.items ++ old_text (seen old.entry)) }
+    ensures { OnOk result (line.new.items ≡ line.old.items ++ old_text (option_copied old.entry)) }
 {
     let keys = Keys {
         name: b"old_active_pol_name=\"",
@@ -93,7 +94,7 @@ pub fn activation_line(
     old: Option<&Brief>,
     new: &Brief,
 ) -> Result<Vec<u8>, AllocError>
-    ensures { IfOk result (λ line. line.items ≡ activation_text (seen old.entry) new.now) }
+    ensures { IfOk result (λ line. line.items ≡ activation_text (option_copied old.entry) new.now) }
 {
     let mut line = b"type=1421 ".to_vec(alloc)?;
     append_old(alloc, &mut line, old)?;

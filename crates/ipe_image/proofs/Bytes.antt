@@ -9,13 +9,13 @@ use Rattle.std.proofs.lemmas.Slice.Eq.{bytes_eq-Decides}
 use Rattle.line_words.specs.Words.{is_text}
 use Rattle.ipe_image.proofs.WordLists.{at-zeros, zero-at}
 use Rattle.ipe_policy.specs.Spelling.{words_for}
-use Rattle.ipe_image.specs.Packing.{byte_words, bytes_in, word_bytes, word_of, words_of}
-use Rattle.ipe_image.specs.Reading.{is_byte}
+use Rattle.ipe_image.specs.Packing.{byte_words, unpacked, word_bytes, word_of, packed_words}
+use Rattle.ipe_image.specs.Reading.{fits_byte}
 
 -- so many words
-pub length-words_of : (count : ℕ) (bytes : List ℕ) → length (words_of count bytes) ≡ count
-length-words_of zero bytes = refl
-length-words_of (suc count) bytes = ap suc (length-words_of count (drop 8 bytes))
+pub length-packed_words : (count : ℕ) (bytes : List ℕ) → length (packed_words count bytes) ≡ count
+length-packed_words zero bytes = refl
+length-packed_words (suc count) bytes = ap suc (length-packed_words count (drop 8 bytes))
 
 -- the bytes of a word, each at its worth
 word_of-sum : (bytes : List ℕ) → length bytes ≤ 8
@@ -59,14 +59,14 @@ others : (byte rest : ℕ) → byte < 256 → (byte + 256 * rest) / 256 ≡ rest
 others byte rest h = omega arith
 
 -- the bytes of a word that was made of some
-pub word-read : (count : ℕ) (bytes more : List ℕ) → length bytes ≤ count → list_all is_byte bytes ≡ true
+pub word-read : (count : ℕ) (bytes more : List ℕ) → length bytes ≤ count → list_all fits_byte bytes ≡ true
     → take (length bytes) (word_bytes count (word_of bytes) ++ more) ≡ bytes
 unfolding word_bytes
 word-read zero [] more few all = refl
 word-read zero (byte ∷ bytes) more few all = absurd (omega arith)
 word-read (suc count) [] more few all = refl
 word-read (suc count) (byte ∷ bytes) more few all =
-    let parts = and_parts (is_byte byte) (list_all is_byte bytes) all in
+    let parts = and_parts (fits_byte byte) (list_all fits_byte bytes) all in
     let below : byte < 256 = ltb-true byte 256 parts.0 in
     rw (lowest byte (word_of bytes) below, others byte (word_of bytes) below)
     (ap (λ (r : List ℕ). byte ∷ r) (word-read count bytes more (omega arith) parts.1))
@@ -87,17 +87,17 @@ word-copied bytes front few same =
     ∙ ap (λ (bs : List ℕ). get_or bs i 0) same)
 
 -- bytes are a first part and the others
-pub all-take : (count : ℕ) (bytes : List ℕ) → list_all is_byte bytes ≡ true → list_all is_byte (take count bytes) ≡ true
+pub all-take : (count : ℕ) (bytes : List ℕ) → list_all fits_byte bytes ≡ true → list_all fits_byte (take count bytes) ≡ true
 all-take zero bytes all = refl
 all-take (suc count) [] all = refl
 all-take (suc count) (byte ∷ bytes) all =
-    let parts = and_parts (is_byte byte) (list_all is_byte bytes) all in
-    and_from (is_byte byte) (list_all is_byte (take count bytes)) parts.0 (all-take count bytes parts.1)
+    let parts = and_parts (fits_byte byte) (list_all fits_byte bytes) all in
+    and_from (fits_byte byte) (list_all fits_byte (take count bytes)) parts.0 (all-take count bytes parts.1)
 
-pub all-drop : (count : ℕ) (bytes : List ℕ) → list_all is_byte bytes ≡ true → list_all is_byte (drop count bytes) ≡ true
+pub all-drop : (count : ℕ) (bytes : List ℕ) → list_all fits_byte bytes ≡ true → list_all fits_byte (drop count bytes) ≡ true
 all-drop zero bytes all = all
 all-drop (suc count) [] all = refl
-all-drop (suc count) (byte ∷ bytes) all = all-drop count bytes (and_parts (is_byte byte) (list_all is_byte bytes) all).1
+all-drop (suc count) (byte ∷ bytes) all = all-drop count bytes (and_parts (fits_byte byte) (list_all fits_byte bytes) all).1
 
 -- what is taken past a first part
 take-past : (xs ys : List ℕ) (n m : ℕ) → m ≡ length xs + n → take m (xs ++ ys) ≡ xs ++ take n ys
@@ -110,8 +110,8 @@ few-or-more : (n : ℕ) → (n ≤ 8) ⊎ (8 < n)
 few-or-more n = grind arith
 
 -- bytes are read back from their words
-words-read : (count : ℕ) (bytes more : List ℕ) → length bytes ≤ 8 * count → list_all is_byte bytes ≡ true
-    → take (length bytes) (flat_map (word_bytes 8) (words_of count bytes ++ more)) ≡ bytes
+words-read : (count : ℕ) (bytes more : List ℕ) → length bytes ≤ 8 * count → list_all fits_byte bytes ≡ true
+    → take (length bytes) (flat_map (word_bytes 8) (packed_words count bytes ++ more)) ≡ bytes
 words-read zero [] more few all = refl
 words-read zero (byte ∷ bytes) more few all = absurd (omega arith)
 words-read (suc count) bytes more few all =
@@ -119,7 +119,7 @@ words-read (suc count) bytes more few all =
     (few-or-more (length bytes))
   where
     behind : List ℕ
-    behind = flat_map (word_bytes 8) (words_of count (drop 8 bytes) ++ more)
+    behind = flat_map (word_bytes 8) (packed_words count (drop 8 bytes) ++ more)
 
     one : List ℕ → ℕ → List ℕ
     one front n = take n (word_bytes 8 (word_of front) ++ behind)
@@ -143,17 +143,17 @@ words-read (suc count) bytes more few all =
         ∙ ap (λ (bs : List ℕ). front ++ bs) others
         ∙ take-append-drop 8 bytes
 
-pub bytes-read : (bytes more : List ℕ) → list_all is_byte bytes ≡ true
-    → bytes_in (length bytes) (byte_words bytes ++ more) ≡ bytes
+pub bytes-read : (bytes more : List ℕ) → list_all fits_byte bytes ≡ true
+    → unpacked (length bytes) (byte_words bytes ++ more) ≡ bytes
 bytes-read bytes more all = words-read (words_for (length bytes)) bytes more (omega arith) all
 
 -- two lists of bytes of one length that have the same words are one list
-pub same-bytes : (a b : List ℕ) → length a ≡ length b → list_all is_byte a ≡ true → list_all is_byte b ≡ true
+pub same-bytes : (a b : List ℕ) → length a ≡ length b → list_all fits_byte a ≡ true → list_all fits_byte b ≡ true
     → byte_words a ≡ byte_words b → a ≡ b
 same-bytes a b count all all' words =
     sym (bytes-read a [] all)
-    ∙ ap (λ (n : ℕ). bytes_in n (byte_words a ++ [])) count
-    ∙ ap (λ (ws : List ℕ). bytes_in (length b) (ws ++ [])) words
+    ∙ ap (λ (n : ℕ). unpacked n (byte_words a ++ [])) count
+    ∙ ap (λ (ws : List ℕ). unpacked (length b) (ws ++ [])) words
     ∙ bytes-read b [] all'
 
 -- two tests that follow from each other
@@ -163,7 +163,7 @@ same-test false true there back = back refl
 same-test false false there back = refl
 
 -- bytes of one length are compared by their words
-pub compared : (a b : List ℕ) → length a ≡ length b → list_all is_byte a ≡ true → list_all is_byte b ≡ true
+pub compared : (a b : List ℕ) → length a ≡ length b → list_all fits_byte a ≡ true → list_all fits_byte b ≡ true
     → is_text (byte_words b) (byte_words a) ≡ is_text a b
 compared a b count all all' =
     same-test _ _
@@ -172,14 +172,14 @@ compared a b count all all' =
     (λ e. (bytes_eq-Decides (byte_words a) (byte_words b)).1 (sym (ap byte_words ((bytes_eq-Decides b a).0 e))))
 
 -- a list of numbers below 256 is one of bytes
-pub all-bytes : (bytes : List ℕ) → ((i : ℕ) → get_or bytes i 0 < 256) → list_all is_byte bytes ≡ true
+pub all-bytes : (bytes : List ℕ) → ((i : ℕ) → get_or bytes i 0 < 256) → list_all fits_byte bytes ≡ true
 all-bytes [] below = refl
 all-bytes (byte ∷ bytes) below =
-    and_from (is_byte byte) (list_all is_byte bytes) (lt-ltb byte 256 (below 0)) (all-bytes bytes (λ i. below (suc i)))
+    and_from (fits_byte byte) (list_all fits_byte bytes) (lt-ltb byte 256 (below 0)) (all-bytes bytes (λ i. below (suc i)))
 
 -- what words of as many bytes tell
-pub bytes-told : (bytes words : List ℕ) (count : ℕ) → list_all is_byte bytes ≡ true → count ≡ length bytes
-    → words ≡ byte_words bytes → bytes_in count words ≡ bytes
+pub bytes-told : (bytes words : List ℕ) (count : ℕ) → list_all fits_byte bytes ≡ true → count ≡ length bytes
+    → words ≡ byte_words bytes → unpacked count words ≡ bytes
 bytes-told bytes words count all many same =
-    ap (λ (n : ℕ). bytes_in n words) many ∙ ap (λ (ws : List ℕ). bytes_in (length bytes) ws) (same
+    ap (λ (n : ℕ). unpacked n words) many ∙ ap (λ (ws : List ℕ). unpacked (length bytes) ws) (same
     ∙ sym (append-nil (byte_words bytes))) ∙ bytes-read bytes [] all

@@ -11,7 +11,7 @@ use Rattle.ipe_policy.specs.Statement.{RuleParts}
 use Rattle.ipe_policy.specs.Evaluation.{matches}
 use Rattle.ipe_image.specs.Parts.{ImageParts, own_default}
 use Rattle.ipe_image.specs.Image.{rule_record}
-use Rattle.ipe_image.specs.Decision.{default_found, default_of, first_match_in, record_in}
+use Rattle.ipe_image.specs.Decision.{default_found, default_in, first_match_in, record_in}
 
 -- a rule that was found under a number stands in its place, and passes the test
 pub record Stands (test : (ℕ × RuleParts)
@@ -69,6 +69,6 @@ no-words parts None (Some action) found e = let is : ◌≡◌ {A = Found}
     cc in ap (λ (f : Found). record_in parts f.which) (sym is)
 no-words parts None None found e = absurd (cc)
 
-pub record-default : (parts : ImageParts) (op : Op) (found : Found) → default_of parts op ≡ Some found
+pub record-default : (parts : ImageParts) (op : Op) (found : Found) → default_in parts op ≡ Some found
     → record_in parts found.which ≡ []
 record-default parts op found e = no-words parts (own_default parts op) parts.global found e

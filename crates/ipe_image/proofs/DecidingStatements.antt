@@ -15,6 +15,9 @@ use Rattle.ipe_policy.specs.Policy.{global_defaults, op_defaults}
 use Rattle.ipe_policy.specs.Evaluation.{decision, deciding_statement, first_default, first_match, found_statement}
 use Rattle.ipe_image.specs.Parts.{parts_of, rule_statement}
 use Rattle.ipe_image.specs.Decision.{deciding, statement_by}
+use Rattle.ipe_image.specs.Answer.{IsRuling}
+use Rattle.ipe_image.specs.declared.hit.Hit.{Hit}
+use Rattle.ipe_image.proofs.Policies.{decide-alike}
 use Rattle.ipe_image.proofs.Texts.{one-op}
 
 -- a rule at a place among the rules
@@ -131,3 +134,11 @@ pub one-statement : (items : List Statement) (serial : ℕ) (op : Op) (context :
 one-statement items serial op context found e =
     found-one items serial op context found e
     ∙ ap (λ (o : Option Found). option_and_then (λ (f : Found). found_statement items op f.which) o) (sym e)
+
+-- what the image of a policy decided, it decided by the policy's deciding statement
+pub ruling-statement : (serial : ℕ) (items : List Statement) (op : Op) (context : Context) (hit : Hit)
+    → IsRuling serial items op context hit
+    → deciding_statement items op context ≡ deciding (parts_of serial items) op hit.found
+ruling-statement serial items op context hit ruling =
+    sym (one-statement items serial op context hit.found (sym (decide-alike items serial op context)
+    ∙ ruling.answer.decision))

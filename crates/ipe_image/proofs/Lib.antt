@@ -1,8 +1,9 @@
 pub mod WordLists
 pub mod Bytes
 pub mod Compare
-pub mod Splits
 pub mod Sizes
+pub mod Splits
+pub mod Turning
 pub mod Places
 pub mod Records
 pub mod Told

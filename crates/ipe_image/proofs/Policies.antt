@@ -18,7 +18,7 @@ use Rattle.ipe_image.specs.Parts.{own_default, parts_of}
 use Rattle.ipe_image.specs.Reading.{has_defaults, is_complete}
 use Rattle.ipe_policy.specs.Spelling.{words_of_image}
 use Rattle.ipe_image.specs.Image.{default_word, image_of, records, words_used}
-use Rattle.ipe_image.specs.Decision.{decision_in, default_found, default_of}
+use Rattle.ipe_image.specs.Decision.{decision_in, default_found, default_in}
 use Rattle.ipe_image.specs.Law.{HasImage}
 use Rattle.ipe_image.proofs.Rules.{rules-fit}
 
@@ -84,7 +84,7 @@ own-is items serial X509Cert = refl
 
 -- the defaults that parts and policy give
 defaults-alike : (items : List Statement) (serial : ℕ) (op : Op)
-    → default_of (parts_of serial items) op ≡ first_default OpDefault (op_defaults op items)
+    → default_in (parts_of serial items) op ≡ first_default OpDefault (op_defaults op items)
     (first_default GlobalDefault (global_defaults items) None)
 defaults-alike items serial op =
     ap (λ (o : Option Action). default_found OpDefault o (default_found GlobalDefault (slice_get

@@ -14,13 +14,13 @@ use Rattle.ipe_policy.specs.declared.statement.Property.{Property}
 use Rattle.ipe_policy.specs.declared.statement.Property.TheVariants.{BootVerified, DmverityRoothash, DmveritySignature, FsverityDigest, FsveritySignature}
 use Rattle.ipe_policy.specs.Statement.{RuleParts, op_number, operations}
 use Rattle.ipe_policy.specs.Spelling.{property_words, rule_words, words_for}
-use Rattle.ipe_image.specs.Packing.{byte_words, bytes_in}
+use Rattle.ipe_image.specs.Packing.{byte_words, unpacked}
 use Rattle.ipe_image.specs.Parts.{ImageParts}
 use Rattle.ipe_image.specs.Image.{action_number, default_word, image_head, image_of, property_image, records, rule_head, rule_record, words_used}
-use Rattle.ipe_image.specs.Reading.{begins, decoded, default_read, digest_read, fits_digest, fits_property, fits_rule, image_in, is_complete, kind_read, properties_read, property_read, rule_read, rules_read}
+use Rattle.ipe_image.specs.Reading.{begin_with, decoded, default_read, digest_read, fits_digest, fits_property, fits_rule, image_in, is_complete, kind_read, properties_read, property_read, rule_read, rules_read}
 use Rattle.ipe_image.specs.Reader.{filled}
 use Rattle.ipe_image.proofs.Told.{read-begins, read-some}
-use Rattle.ipe_image.proofs.Bytes.{bytes-read, length-words_of}
+use Rattle.ipe_image.proofs.Bytes.{bytes-read, length-packed_words}
 use Rattle.ipe_image.proofs.Sizes.{digest-bounds, few-rule_properties, few-rule_words, fewer-rules, length-property_image, length-records, length-rule_record}
 use Rattle.ipe_image.proofs.Places.{Complete, complete-facts, default-read, op-below, places}
 
@@ -28,10 +28,10 @@ use Rattle.ipe_image.proofs.Places.{Complete, complete-facts, default-read, op-b
 digest-back : (digest : Digest) (alg_len len : ℕ) (more : List ℕ) → fits_digest digest ≡ true
     → alg_len ≡ length digest.alg → len ≡ length digest.bytes
     → ◌≡◌ {A = Digest} (record {
-      alg = bytes_in alg_len
+      alg = unpacked alg_len
           ((byte_words digest.alg ++ byte_words digest.bytes) ++ more);
       bytes =
-          bytes_in len (drop (words_for alg_len)
+          unpacked len (drop (words_for alg_len)
           ((byte_words digest.alg ++ byte_words digest.bytes) ++ more));
     }) digest
 digest-back digest alg_len len more fits alg_is len_is =
@@ -39,22 +39,22 @@ digest-back digest alg_len len more fits alg_is len_is =
     let alg_words = byte_words digest.alg in
     let words = byte_words digest.bytes in
     let spread : (alg_words ++ words) ++ more ≡ alg_words ++ (words ++ more) = append_assoc alg_words words more in
-    let alg : bytes_in alg_len ((alg_words ++ words) ++ more) ≡ digest.alg =
-    ap (λ (n : ℕ). bytes_in n ((alg_words ++ words) ++ more)) alg_is
-    ∙ ap (λ (ws : List ℕ). bytes_in (length digest.alg) ws) spread
+    let alg : unpacked alg_len ((alg_words ++ words) ++ more) ≡ digest.alg =
+    ap (λ (n : ℕ). unpacked n ((alg_words ++ words) ++ more)) alg_is
+    ∙ ap (λ (ws : List ℕ). unpacked (length digest.alg) ws) spread
     ∙ bytes-read digest.alg (words ++ more) bounds.alg in
     let behind : drop (words_for alg_len) ((alg_words ++ words) ++ more) ≡ words ++ more =
     ap (λ (n : ℕ). drop (words_for n) ((alg_words ++ words) ++ more)) alg_is
     ∙ ap (drop (words_for (length digest.alg))) spread
-    ∙ drop_at alg_words (words ++ more) (words_for (length digest.alg)) (length-words_of (words_for
+    ∙ drop_at alg_words (words ++ more) (words_for (length digest.alg)) (length-packed_words (words_for
     (length digest.alg)) digest.alg) in
-    let bytes : bytes_in len (drop (words_for alg_len) ((alg_words ++ words) ++ more)) ≡ digest.bytes =
-    ap (λ (n : ℕ). bytes_in n (drop (words_for alg_len) ((alg_words ++ words) ++ more))) len_is
-    ∙ ap (λ (ws : List ℕ). bytes_in (length digest.bytes) ws) behind
+    let bytes : unpacked len (drop (words_for alg_len) ((alg_words ++ words) ++ more)) ≡ digest.bytes =
+    ap (λ (n : ℕ). unpacked n (drop (words_for alg_len) ((alg_words ++ words) ++ more))) len_is
+    ∙ ap (λ (ws : List ℕ). unpacked (length digest.bytes) ws) behind
     ∙ bytes-read digest.bytes more bounds.bytes in
     ap (λ (a : List ℕ). record {
       alg = a;
-      bytes = bytes_in len (drop (words_for alg_len)
+      bytes = unpacked len (drop (words_for alg_len)
           ((alg_words ++ words) ++ more));
     }) alg
     ∙ ap (λ (b : List ℕ). record { alg = digest.alg; bytes = b }) bytes
@@ -208,10 +208,10 @@ image-back parts more complete =
     let words = image_of parts ++ more in
     let front : take (length (image_of parts)) words ≡ image_of parts =
     take_at (image_of parts) more (length (image_of parts)) refl in
-    let passes : begins (image_of parts) words ≡ true =
+    let passes : begin_with (image_of parts) words ≡ true =
     (bytes_eq-Decides (take (length (image_of parts)) words) (image_of parts)).1 front in
-    let both : (is_complete parts && begins (image_of parts) words) ≡ true = and_from _ _ complete passes in
-    ap (λ (o : Option ImageParts). option_and_then (λ told. cond (is_complete told && begins (image_of told) words)
+    let both : (is_complete parts && begin_with (image_of parts) words) ≡ true = and_from _ _ complete passes in
+    ap (λ (o : Option ImageParts). option_and_then (λ told. cond (is_complete told && begin_with (image_of told) words)
     (Some told) None) o) (decoded-back parts more (complete-facts parts complete))
     ∙ ap (λ (b : Bool). cond b (Some parts) None) both
 

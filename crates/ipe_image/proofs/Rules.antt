@@ -11,29 +11,29 @@ use Rattle.ipe_policy.specs.declared.statement.Statement.TheVariants.{Rule, OpDe
 use Rattle.ipe_policy.specs.Policy.{AreProperties, IsNamedDigest, IsProperty, IsStatement}
 use Rattle.ipe_policy.specs.Statement.{RuleParts, rule_of}
 use Rattle.ipe_policy.specs.Words.{is_alg_name}
-use Rattle.ipe_image.specs.Reading.{fits_digest, fits_property, fits_rule, is_byte}
+use Rattle.ipe_image.specs.Reading.{fits_digest, fits_property, fits_rule, fits_byte}
 use Rattle.ipe_image.specs.Parts.{rule_statement}
 
 -- numbers below 256, as a test
-bytes-pass : (bytes : List ℕ) → AllByRecursion (λ byte. byte < 256) bytes → list_all is_byte bytes ≡ true
+bytes-pass : (bytes : List ℕ) → AllByRecursion (λ byte. byte < 256) bytes → list_all fits_byte bytes ≡ true
 bytes-pass [] h = refl
-bytes-pass (byte ∷ bytes) h = and_from (is_byte byte) (list_all is_byte bytes) (lt-ltb byte 256 h.0) (bytes-pass bytes h.1)
+bytes-pass (byte ∷ bytes) h = and_from (fits_byte byte) (list_all fits_byte bytes) (lt-ltb byte 256 h.0) (bytes-pass bytes h.1)
 
-bytes-below : (bytes : List ℕ) → list_all is_byte bytes ≡ true → AllByRecursion (λ byte. byte < 256) bytes
+bytes-below : (bytes : List ℕ) → list_all fits_byte bytes ≡ true → AllByRecursion (λ byte. byte < 256) bytes
 bytes-below [] h = tt
 bytes-below (byte ∷ bytes) h =
-    let both = and_parts (is_byte byte) (list_all is_byte bytes) h in (ltb-true byte 256 both.0, bytes-below bytes both.1)
+    let both = and_parts (fits_byte byte) (list_all fits_byte bytes) h in (ltb-true byte 256 both.0, bytes-below bytes both.1)
 
 digest-fits : (digest : Digest) → IsNamedDigest digest → fits_digest digest ≡ true
 digest-fits digest h =
-    and_from (is_alg_name digest.alg) _ h.alg (and_from _ (list_all is_byte digest.bytes)
+    and_from (is_alg_name digest.alg) _ h.alg (and_from _ (list_all fits_byte digest.bytes)
     (and_from (nat_le 1 (length digest.bytes)) (nat_le (length digest.bytes) 64) (le-leb 1 _ h.has_byte) (le-leb _ 64 h.few))
     (bytes-pass digest.bytes h.bytes))
 
 named-digest : (digest : Digest) → fits_digest digest ≡ true → IsNamedDigest digest
 named-digest digest fits =
     let both = and_parts (is_alg_name digest.alg) _ fits in
-    let bytes = and_parts _ (list_all is_byte digest.bytes) both.1 in
+    let bytes = and_parts _ (list_all fits_byte digest.bytes) both.1 in
     let count = and_parts (nat_le 1 (length digest.bytes)) (nat_le (length digest.bytes) 64) bytes.0 in
     record {
       alg = both.0;

@@ -14,8 +14,8 @@ use Rattle.line_words.specs.Words.{is_digit, is_lower}
 use Rattle.ipe_policy.specs.Spelling.{property_words, rule_words, words_for}
 use Rattle.ipe_image.specs.Packing.{byte_words}
 use Rattle.ipe_image.specs.Image.{named_digest, property_image, rule_record, records}
-use Rattle.ipe_image.specs.Reading.{fits_digest, fits_property, fits_rule, is_byte}
-use Rattle.ipe_image.proofs.Bytes.{length-words_of}
+use Rattle.ipe_image.specs.Reading.{fits_digest, fits_property, fits_rule, fits_byte}
+use Rattle.ipe_image.proofs.Bytes.{length-packed_words}
 
 -- a property's words, by the lengths of its digest
 words-by-lengths : (property : Property)
@@ -35,9 +35,9 @@ length-property_image property =
       arith,
       words-by-lengths property,
       length-append (byte_words alg) (byte_words bytes),
-      length-words_of
+      length-packed_words
           (words_for (length alg)) alg,
-      length-words_of (words_for (length bytes)) bytes,
+      length-packed_words (words_for (length bytes)) bytes,
     )
 
 pub length-properties : (properties : List Property)
@@ -70,35 +70,35 @@ length-records number (rule ∷ rules) =
     )
 
 -- the byte of an algorithm's name is a byte
-alg-byte : (byte : ℕ) → is_alg_byte byte ≡ true → is_byte byte ≡ true
+alg-byte : (byte : ℕ) → is_alg_byte byte ≡ true → fits_byte byte ≡ true
 alg-byte byte e = at (or_cases _ _ e)
   where
-    at : ((is_lower byte || is_digit byte) ≡ true) ⊎ ((byte == 45) ≡ true) → is_byte byte ≡ true
+    at : ((is_lower byte || is_digit byte) ≡ true) ⊎ ((byte == 45) ≡ true) → fits_byte byte ≡ true
     at (inr h) = lt-ltb byte 256 (let same : byte ≡ 45 = eqb-true byte 45 h in omega arith)
     at (inl h) = among (or_cases _ _ h)
       where
-        among : (is_lower byte ≡ true) ⊎ (is_digit byte ≡ true) → is_byte byte ≡ true
+        among : (is_lower byte ≡ true) ⊎ (is_digit byte ≡ true) → fits_byte byte ≡ true
         among (inl h) = lt-ltb byte 256 (let top : byte ≤ 122 = leb-true byte 122 (and_parts (nat_le 97 byte) (nat_le byte 122) h).1 in omega arith)
         among (inr h) = lt-ltb byte 256 (let top : byte ≤ 57 = leb-true byte 57 (and_parts (nat_le 48 byte) (nat_le byte 57) h).1 in omega arith)
 
-alg-bytes : (bytes : List ℕ) → list_all is_alg_byte bytes ≡ true → list_all is_byte bytes ≡ true
+alg-bytes : (bytes : List ℕ) → list_all is_alg_byte bytes ≡ true → list_all fits_byte bytes ≡ true
 alg-bytes [] all = refl
 alg-bytes (byte ∷ bytes) all =
     let parts = and_parts (is_alg_byte byte) (list_all is_alg_byte bytes) all in
-    and_from (is_byte byte) (list_all is_byte bytes) (alg-byte byte parts.0) (alg-bytes bytes parts.1)
+    and_from (fits_byte byte) (list_all fits_byte bytes) (alg-byte byte parts.0) (alg-bytes bytes parts.1)
 
 -- a digest's name and its value are bytes, at most 16 and 64 of them
 pub record Bounds (digest : Digest) : Type 0 where
   pub few_alg : length digest.alg ≤ 16
-  pub alg : list_all is_byte digest.alg ≡ true
+  pub alg : list_all fits_byte digest.alg ≡ true
   pub few : length digest.bytes ≤ 64
-  pub bytes : list_all is_byte digest.bytes ≡ true
+  pub bytes : list_all fits_byte digest.bytes ≡ true
 
 pub digest-bounds : (digest : Digest) → fits_digest digest ≡ true → Bounds digest
 digest-bounds digest fits =
     let both = and_parts (is_alg_name digest.alg) _ fits in
     let alg = and_parts _ (list_all is_alg_byte digest.alg) both.0 in
-    let bytes = and_parts _ (list_all is_byte digest.bytes) both.1 in
+    let bytes = and_parts _ (list_all fits_byte digest.bytes) both.1 in
     record {
       few_alg = leb-true _ 16 (and_parts (nat_le 1 (length digest.alg)) (nat_le (length digest.alg) 16) alg.0).1;
       alg = alg-bytes digest.alg alg.1;

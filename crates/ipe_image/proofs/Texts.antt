@@ -16,8 +16,8 @@ use Rattle.line_words.specs.Lines.{joined}
 use Rattle.ipe_image.specs.Parts.{ImageParts, own_default}
 use Rattle.ipe_image.specs.Image.{property_image, rule_record}
 use Rattle.ipe_image.specs.Reading.{fits_property, fits_rule, image_in}
-use Rattle.ipe_image.specs.Heads.{AreProperties, BeginsWithProperty}
-use Rattle.ipe_image.specs.Decision.{default_found, default_of, first_match_in, match_found, record_in}
+use Rattle.ipe_image.specs.Heads.{ArePropertyImages, BeginsWithProperty}
+use Rattle.ipe_image.specs.Decision.{default_found, default_in, first_match_in, match_found, record_in}
 use Rattle.ipe_image.specs.Answer.{IsAnswer}
 use Rattle.ipe_image.specs.declared.hit.Hit.{Hit}
 use Rattle.ipe_image.proofs.Deciders.{record-found, stands}
@@ -32,7 +32,7 @@ tokens_text properties = flat_map (λ property. 32 ∷ property_token property) 
 -- the text so far, and that of the properties that are left
 pub record TextLeft (words text whole : List ℕ) : Type 0 where
   pub left : List Property
-  pub are : AreProperties words left
+  pub are : ArePropertyImages words left
   pub same : text ++ tokens_text left ≡ whole
 
 -- the first of the properties that are left
@@ -130,7 +130,7 @@ rule-answer words parts op context hit number told h which = at (first_match_in 
     fit = (complete-facts parts (read-begins words parts told).complete).fit
 
     at : (o : Option (ℕ × RuleParts)) → first_match_in parts op context ≡ o
-        → match_found o (default_of parts op) ≡ Some hit.found
+        → match_found o (default_in parts op) ≡ Some hit.found
         → IsRuleAnswer parts op number hit.found.action hit.rule.items
     at None e decided = absurd (no-rule (own_default parts op) parts.global hit.found number decided which)
     at (Some one) e decided =

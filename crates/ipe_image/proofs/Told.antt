@@ -6,7 +6,7 @@ use Rattle.std.proofs.lemmas.List.{take-append-drop}
 use Rattle.std.proofs.lemmas.Slice.Eq.{bytes_eq-Decides}
 use Rattle.ipe_image.specs.Parts.{ImageParts}
 use Rattle.ipe_image.specs.Image.{image_of}
-use Rattle.ipe_image.specs.Reading.{begins, decoded, image_in, is_complete}
+use Rattle.ipe_image.specs.Reading.{begin_with, decoded, image_in, is_complete}
 use Rattle.ipe_image.specs.Found.{BeginsWithImage}
 
 -- other words that are the same begin with the same image
@@ -16,15 +16,15 @@ moved words words' parts same h = record { complete = h.complete; behind = h.beh
 
 -- what was read passed both tests
 taken : (words : List ℕ) (o : Option ImageParts) (parts : ImageParts)
-    → option_and_then (λ told. cond (is_complete told && begins (image_of told) words) (Some told) None) o ≡ Some parts
-    → (is_complete parts && begins (image_of parts) words) ≡ true
+    → option_and_then (λ told. cond (is_complete told && begin_with (image_of told) words) (Some told) None) o ≡ Some parts
+    → (is_complete parts && begin_with (image_of parts) words) ≡ true
 taken words None parts e = absurd (cc)
-taken words (Some told) parts e = at (is_complete told && begins (image_of told) words) refl e
+taken words (Some told) parts e = at (is_complete told && begin_with (image_of told) words) refl e
   where
-    at : (b : Bool) → (is_complete told && begins (image_of told) words) ≡ b
-        → cond b (Some told) None ≡ Some parts → (is_complete parts && begins (image_of parts) words) ≡ true
+    at : (b : Bool) → (is_complete told && begin_with (image_of told) words) ≡ b
+        → cond b (Some told) None ≡ Some parts → (is_complete parts && begin_with (image_of parts) words) ≡ true
     at true same e = let one : told ≡ parts =
-        cc in subst (λ (p : ImageParts). (is_complete p && begins (image_of p) words) ≡ true) one same
+        cc in subst (λ (p : ImageParts). (is_complete p && begin_with (image_of p) words) ≡ true) one same
     at false same e = absurd (cc)
 
 -- words that tell parts begin with their image

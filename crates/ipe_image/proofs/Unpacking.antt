@@ -3,7 +3,7 @@ use Rattle.std.proofs.Common.{◌≡◌, ◌∙◌, ℕ, ◌+◌, ◌-◌, ◌/�
 use Rattle.std.specs.List.{flat_map}
 use Rattle.std.specs.Int.{w64, to_le_bytes}
 use Rattle.std.proofs.lemmas.List.{drop_more, take_min}
-use Rattle.ipe_image.specs.Packing.{bytes_in, word_bytes}
+use Rattle.ipe_image.specs.Packing.{unpacked, word_bytes}
 use Rattle.ipe_image.proofs.Bytes.{length-word_bytes}
 
 -- the bytes of a word of eight
@@ -27,14 +27,14 @@ take-both (x ∷ xs) ys (suc k) rest same = ap (λ (zs : List ℕ). x ∷ zs) (t
 
 -- the bytes of the next word, and those of the others
 pub next-piece : (words : List ℕ) (i left piece rest : ℕ) → i < length words → piece ≡ min left 8 → rest ≡ left - piece
-    → bytes_in left (drop i words) ≡ take piece (to_le_bytes w64 (get_or words i 0)) ++ bytes_in rest (drop
+    → unpacked left (drop i words) ≡ take piece (to_le_bytes w64 (get_or words i 0)) ++ unpacked rest (drop
     (i + 1) words)
 next-piece words i left piece rest some piece_is rest_is =
     let word = get_or words i 0 in
     let eight : length (word_bytes 8 word) ≡ 8 = length-word_bytes 8 word in
     let swapped : piece ≡ min left (length (word_bytes 8 word)) = omega arith in
-    ap (bytes_in left) (drop_more words i 0 some)
+    ap (unpacked left) (drop_more words i 0 some)
     ∙ take-both (word_bytes 8 word) (flat_map (word_bytes 8) (drop (i + 1) words)) left rest (omega arith)
-    ∙ ap (λ (bs : List ℕ). bs ++ bytes_in rest (drop (i + 1) words)) (sym (ap (λ (k : ℕ). take k
+    ∙ ap (λ (bs : List ℕ). bs ++ unpacked rest (drop (i + 1) words)) (sym (ap (λ (k : ℕ). take k
     (word_bytes 8 word)) swapped ∙ take_min left (word_bytes 8 word)))
-    ∙ ap (λ (bs : List ℕ). take piece bs ++ bytes_in rest (drop (i + 1) words)) (sym (le-bytes word))
+    ∙ ap (λ (bs : List ℕ). take piece bs ++ unpacked rest (drop (i + 1) words)) (sym (le-bytes word))

@@ -25,8 +25,8 @@ default_found which (Some action) otherwise = Some (record { action = action; wh
 default_found which None otherwise = otherwise
 
 -- the operation's default, else the global default
-abbrev pub default_of : ImageParts → Op → Option Found
-default_of parts op = default_found OpDefault (own_default parts op) (default_found GlobalDefault parts.global None)
+abbrev pub default_in : ImageParts → Op → Option Found
+default_in parts op = default_found OpDefault (own_default parts op) (default_found GlobalDefault parts.global None)
 
 -- what a match gives, and what else where there is none
 abbrev pub match_found : Option (ℕ × RuleParts) → Option Found → Option Found
@@ -35,7 +35,7 @@ match_found None otherwise = otherwise
 
 -- the first match decides, else the operation's default, else the global default; nothing where there is none of these
 abbrev pub decision_in : ImageParts → Op → Context → Option Found
-decision_in parts op context = match_found (first_match_in parts op context) (default_of parts op)
+decision_in parts op context = match_found (first_match_in parts op context) (default_in parts op)
 
 -- the words of the rule that decided; none where a default did
 abbrev pub record_in : ImageParts → Which → List ℕ

@@ -5,8 +5,8 @@ use Rattle.ipe_policy.specs.declared.statement.Property.{Property}
 use Rattle.ipe_policy.specs.declared.statement.Property.TheVariants as property
 use Rattle.ipe_policy.specs.Statement.{RuleParts, op_number}
 use Rattle.ipe_policy.specs.Spelling.{rule_words}
-use Rattle.ipe_image.specs.declared.head.Kind.{Kind}
-use Rattle.ipe_image.specs.declared.head.Kind.TheVariants as kind
+use Rattle.ipe_image.specs.declared.head.PropertyKind.{PropertyKind}
+use Rattle.ipe_image.specs.declared.head.PropertyKind.TheVariants as kind
 use Rattle.ipe_image.specs.declared.head.RuleHead.{RuleHead}
 use Rattle.ipe_image.specs.declared.head.PropertyHead.{PropertyHead}
 use Rattle.ipe_image.specs.Packing.{byte_words}
@@ -30,7 +30,7 @@ pub record IsPropertyHead (word : ℕ) (property : Property) : Type 0 where
   pub head : word ≡ property_head property
 
 -- the kind of a property
-abbrev pub kind_of : Property → Kind
+abbrev pub kind_of : Property → PropertyKind
 kind_of (property.BootVerified wanted) = kind.BootVerified
 kind_of (property.DmveritySignature wanted) = kind.DmveritySignature
 kind_of (property.FsveritySignature wanted) = kind.FsveritySignature
@@ -38,7 +38,7 @@ kind_of (property.DmverityRoothash digest) = kind.DmverityRoothash
 kind_of (property.FsverityDigest digest) = kind.FsverityDigest
 
 -- the number of a kind
-abbrev pub kind_code : Kind → ℕ
+abbrev pub kind_code : PropertyKind → ℕ
 kind_code kind.BootVerified = 0
 kind_code kind.DmveritySignature = 1
 kind_code kind.FsveritySignature = 2
@@ -67,6 +67,6 @@ pub record IsWordsOf (head : PropertyHead) (alg digest : List ℕ) (property : P
   pub digest_is : digest ≡ byte_words (named_digest property).bytes
 
 -- words are the images of these properties, one after the other
-pub record AreProperties (words : List ℕ) (properties : List Property) : Type 0 where
+pub record ArePropertyImages (words : List ℕ) (properties : List Property) : Type 0 where
   pub fit : IsTrue (list_all fits_property properties)
   pub whole : words ≡ flat_map property_image properties

@@ -9,13 +9,13 @@ word_of [] = 0
 word_of (byte ∷ bytes) = byte + 256 * word_of bytes
 
 -- so many words of eight bytes each, and zeros where there are no more bytes
-abbrev pub words_of : ℕ → List ℕ → List ℕ
-words_of zero bytes = []
-words_of (suc count) bytes = word_of (take 8 bytes) ∷ words_of count (drop 8 bytes)
+abbrev pub packed_words : ℕ → List ℕ → List ℕ
+packed_words zero bytes = []
+packed_words (suc count) bytes = word_of (take 8 bytes) ∷ packed_words count (drop 8 bytes)
 
 -- bytes in whole words, the last one filled with zeros
 abbrev pub byte_words : List ℕ → List ℕ
-byte_words bytes = words_of (words_for (length bytes)) bytes
+byte_words bytes = packed_words (words_for (length bytes)) bytes
 
 -- so many bytes of a word, the lowest first
 unfoldable pub word_bytes : ℕ → ℕ → List ℕ
@@ -23,5 +23,5 @@ word_bytes zero word = []
 word_bytes (suc count) word = word % 256 ∷ word_bytes count (word / 256)
 
 -- the first bytes of words, so many
-abbrev pub bytes_in : ℕ → List ℕ → List ℕ
-bytes_in count words = take count (flat_map (word_bytes 8) words)
+abbrev pub unpacked : ℕ → List ℕ → List ℕ
+unpacked count words = take count (flat_map (word_bytes 8) words)

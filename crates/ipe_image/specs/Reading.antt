@@ -11,7 +11,7 @@ use Rattle.ipe_policy.specs.Statement.{RuleParts, operations}
 use Rattle.ipe_policy.specs.Spelling.{property_words, rule_words, words_for}
 use Rattle.ipe_policy.specs.Words.{is_alg_name}
 use Rattle.line_words.specs.Words.{is_text, is_word}
-use Rattle.ipe_image.specs.Packing.{bytes_in}
+use Rattle.ipe_image.specs.Packing.{unpacked}
 use Rattle.ipe_image.specs.Parts.{ImageParts}
 use Rattle.ipe_image.specs.Image.{image_of, words_used}
 
@@ -31,8 +31,8 @@ kind_read kind wanted digest =
 -- the digest after a property's head
 abbrev pub digest_read : ℕ → List ℕ → Digest
 digest_read head words = record {
-  alg = bytes_in (head / 2 ^ 16 % 256) words;
-  bytes = bytes_in (head / 2 ^ 24 % 256) (drop (words_for (head / 2 ^ 16 % 256)) words);
+  alg = unpacked (head / 2 ^ 16 % 256) words;
+  bytes = unpacked (head / 2 ^ 24 % 256) (drop (words_for (head / 2 ^ 16 % 256)) words);
 }
 
 -- the property with which words begin
@@ -77,12 +77,12 @@ decoded words =
     }) (rules_read (slice_index words 10) (drop 25 words))
 
 -- a number that a byte holds
-abbrev pub is_byte : ℕ → Bool
-is_byte byte = nat_lt byte 256
+abbrev pub fits_byte : ℕ → Bool
+fits_byte byte = nat_lt byte 256
 
 -- a digest that a policy may name: the name of an algorithm, and 1 to 64 bytes
 abbrev pub fits_digest : Digest → Bool
-fits_digest digest = is_alg_name digest.alg && is_word 1 64 is_byte digest.bytes
+fits_digest digest = is_alg_name digest.alg && is_word 1 64 fits_byte digest.bytes
 
 -- a property's digest, if it has one, fits
 abbrev pub fits_property : Property → Bool
@@ -105,11 +105,11 @@ abbrev pub is_complete : ImageParts → Bool
 is_complete parts = has_defaults parts && (list_all fits_rule parts.rules && nat_le (words_used parts) 4096)
 
 -- words begin with these words
-abbrev pub begins : List ℕ → List ℕ → Bool
-begins front words = is_text front (take (length front) words)
+abbrev pub begin_with : List ℕ → List ℕ → Bool
+begin_with front words = is_text front (take (length front) words)
 
 -- the parts that words tell, where they are complete and the words begin with the image of these very parts
 abbrev pub image_in : List ℕ → Option ImageParts
 image_in words =
-    option_and_then (λ parts. if is_complete parts && begins (image_of parts) words then Some parts else None)
+    option_and_then (λ parts. if is_complete parts && begin_with (image_of parts) words then Some parts else None)
     (decoded words)

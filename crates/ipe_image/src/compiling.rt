@@ -3,7 +3,7 @@ ghost use Rattle.std.specs.List.{filter_map};
 ghost use Rattle.ipe_policy.specs.Policy.{global_defaults, op_defaults};
 ghost use Rattle.ipe_policy.specs.Spelling.{words_of_image};
 ghost use Rattle.ipe_policy.specs.Statement.{operations, rule_of};
-ghost use Rattle.ipe_image.specs.Compiling.{Refuses};
+ghost use Rattle.ipe_image.specs.Compiling.{HasNoImage};
 ghost use Rattle.ipe_image.specs.Image.{default_word, image_of};
 ghost use Rattle.ipe_image.specs.Parts.{parts_of};
 ghost use Rattle.ipe_image.specs.Reader.{filled};
@@ -116,7 +116,7 @@ pub fn compile(alloc: Global, policy: &Policy, serial: u64) -> Result<Image, Com
     ensures fits { OnOk result (words_of_image policy.now.items ≤ 4096) }
     ensures told { IfOk result (λ image. image_in image ≡ Some (parts_of serial policy.now.items)) }
     ensures filled { IfOk result (λ image. image_in (filled 4096 image) ≡ Some (parts_of serial policy.now.items)) }
-    ensures refused { IfErr result (Refuses (words_of_image policy.now.items)) }
+    ensures refused { IfErr result (HasNoImage (words_of_image policy.now.items)) }
 {
     let words = image_words(policy);
     if words > MOST_WORDS {

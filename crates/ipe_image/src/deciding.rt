@@ -1,11 +1,10 @@
-ghost use Rattle.std.specs.Prelude.{◌≡◌, ◌+◌, ◌≤◌, ℕ, IsTrue, MatchOption, Some, true, false, length, is_some, take, drop};
+ghost use Rattle.std.specs.Prelude.{◌≡◌, ◌+◌, ◌≤◌, ℕ, IsTrue, Some, length, is_some, take, drop};
 ghost use Rattle.ipe_policy.specs.Evaluation.{matches};
 ghost use Rattle.ipe_policy.specs.Statement.{RuleParts};
 ghost use Rattle.ipe_image.specs.Answer.{IsAnswer, IsHit};
 ghost use Rattle.ipe_image.specs.Found.{BeginsWithImage, IsFirstMatch, IsRecordAt};
-ghost use Rattle.ipe_image.specs.Decision.{default_of};
+ghost use Rattle.ipe_image.specs.Decision.{default_in};
 ghost use Rattle.ipe_image.specs.Heads.{told_of_rule};
-ghost use Rattle.ipe_image.specs.Image.{rule_record};
 ghost use Rattle.ipe_image.specs.Parts.{ImageParts};
 ghost use Rattle.ipe_image.specs.Reading.{image_in};
 
@@ -25,11 +24,13 @@ const RULE_COUNT: u32 = 10;
 
 const RECORDS: u32 = 25;
 
-/// A rule that matches, with the words of its record.
+/// A rule that matches, with the place and the number of the words of its record.
+#[derive(Clone, Copy)]
 pub(crate) struct Matched {
     pub number: u32,
     pub action: Action,
-    pub rule: ArrayVec<u64, 192>,
+    pub at: u32,
+    pub words: u32,
 }
 
 // The words of a record.
@@ -48,30 +49,22 @@ fn record<R: WordReader>(reader: &mut R, at: u32, words: u32) -> ArrayVec<u64, 1
     record
 }
 
-// The words of the rule's record, if the rule is of the operation and all its properties hold.
-fn matching_record<R: WordReader>(
+// Whether the rule of this head is of the operation and all its properties hold.
+fn is_match<R: WordReader>(
     reader: &mut R,
     at: u32,
     head: RuleHead,
     op: Op,
     context: &Context,
-) -> Option<ArrayVec<u64, 192>>
+) -> bool
     requires { (number : ℕ) × (rule : RuleParts) × IsRecordAt (R.words reader.old) at number rule ×
         (head ≡ told_of_rule number rule) }
     ensures stays { R.words reader.new ≡ R.words reader.old }
     ensures kept { R.kept reader.new ≡ R.kept reader.old }
-    ensures found { (number : ℕ) (rule : RuleParts) → IsRecordAt (R.words reader.old) at number rule →
-        head ≡ told_of_rule number rule → MatchOption result (matches op context.now (number, rule) ≡ false)
-        (λ words. (matches op context.now (number, rule) ≡ true) × (words.items ≡ rule_record number rule)) }
+    ensures matches { (number : ℕ) (rule : RuleParts) → IsRecordAt (R.words reader.old) at number rule →
+        head ≡ told_of_rule number rule → result ≡ matches op context.now (number, rule) }
 {
-    if head.op != op.number() {
-        return None;
-    }
-    let record = record(reader, at, head.words);
-    if !all_hold(&record.as_slice()[1..], context) {
-        return None;
-    }
-    Some(record)
+    head.op == op.number() && all_hold(reader, at + 1, at + head.words, context)
 }
 
 // The first rule of the operation whose properties all hold.
@@ -80,17 +73,18 @@ fn first_match<R: WordReader>(reader: &mut R, op: Op, context: &Context) -> Opti
     ensures stays { R.words reader.new ≡ R.words reader.old }
     ensures kept { R.kept reader.new ≡ R.kept reader.old }
     ensures found { (parts : ImageParts) → BeginsWithImage (R.words reader.old) parts →
-        IsFirstMatch parts op context.now result }
+        IsFirstMatch (R.words reader.old) parts op context.now result }
 {
     let count = reader.word(RULE_COUNT);
     let mut at = RECORDS;
     for _index in 0..count {
         let head = RuleHead::read(reader.word(at));
-        if let Some(rule) = matching_record(reader, at, head, op, context) {
+        if is_match(reader, at, head, op, context) {
             return Some(Matched {
                 number: head.number,
                 action: head.action,
-                rule,
+                at,
+                words: head.words,
             });
         }
         at += head.words;
@@ -99,12 +93,12 @@ fn first_match<R: WordReader>(reader: &mut R, op: Op, context: &Context) -> Opti
 }
 
 // The operation's default, else the global one.
-fn default_of<R: WordReader>(reader: &mut R, op: Op) -> Found
+fn default_in<R: WordReader>(reader: &mut R, op: Op) -> Found
     requires { (parts : ImageParts) × BeginsWithImage (R.words reader.old) parts }
     ensures stays { R.words reader.new ≡ R.words reader.old }
     ensures kept { R.kept reader.new ≡ R.kept reader.old }
     ensures found { (parts : ImageParts) → BeginsWithImage (R.words reader.old) parts →
-        default_of parts op ≡ Some result }
+        default_in parts op ≡ Some result }
 {
     if let Some(action) = action_of(reader.word(OP_DEFAULTS + op.number())) {
         return Found {
@@ -123,7 +117,7 @@ fn default_of<R: WordReader>(reader: &mut R, op: Op) -> Found
 
 /// What the image with which the words begin decides of a file: the first rule of the operation whose properties all
 /// hold, else the operation's default, else the global default. It goes over the records once, stops at the first
-/// match, and takes no memory.
+/// match, whose record alone it copies, and takes no memory.
 pub fn decide_words<R: WordReader>(reader: &mut R, op: Op, context: &Context) -> Hit
     requires { IsTrue (is_some (image_in (R.words reader.old))) }
     ensures stays { R.words reader.new ≡ R.words reader.old }
@@ -134,23 +128,17 @@ pub fn decide_words<R: WordReader>(reader: &mut R, op: Op, context: &Context) ->
 {
     let serial = reader.word(1);
     match first_match(reader, op, context) {
-        Some(
-            Matched {
-                number,
-                action,
-                rule,
-            },
-        ) => Hit {
+        Some(rule) => Hit {
             serial,
             found: Found {
-                action,
-                which: Which::Rule(number),
+                action: rule.action,
+                which: Which::Rule(rule.number),
             },
-            rule,
+            rule: record(reader, rule.at, rule.words),
         },
         None => Hit {
             serial,
-            found: default_of(reader, op),
+            found: default_in(reader, op),
             rule: ArrayVec::new(),
         },
     }

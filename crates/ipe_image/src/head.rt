@@ -1,4 +1,4 @@
-ghost use Rattle.std.specs.Prelude.{◌≡◌, ◌≤◌, ◌<◌, ◌==◌, ℕ};
+ghost use Rattle.std.specs.Prelude.{◌≡◌, ◌+◌, ◌≤◌, ◌<◌, ◌==◌, ℕ};
 ghost use Rattle.ipe_policy.specs.Spelling.{words_for};
 ghost use Rattle.ipe_policy.specs.Statement.{RuleParts};
 ghost use Rattle.ipe_policy.specs.declared.statement.Property.{Property};
@@ -64,7 +64,7 @@ impl RuleHead {
 
 /// The kinds of properties.
 #[derive(Clone, Copy)]
-pub(crate) enum Kind {
+pub(crate) enum PropertyKind {
     BootVerified,
     DmveritySignature,
     FsveritySignature,
@@ -72,29 +72,29 @@ pub(crate) enum Kind {
     FsverityDigest,
 }
 
-impl Kind {
+impl PropertyKind {
     pub fn number(self) -> u64
         ensures number { result ≡ kind_code self }
         ensures below { result < 5 }
     {
         match self {
-            Kind::BootVerified => 0,
-            Kind::DmveritySignature => 1,
-            Kind::FsveritySignature => 2,
-            Kind::DmverityRoothash => 3,
-            Kind::FsverityDigest => 4,
+            PropertyKind::BootVerified => 0,
+            PropertyKind::DmveritySignature => 1,
+            PropertyKind::FsveritySignature => 2,
+            PropertyKind::DmverityRoothash => 3,
+            PropertyKind::FsverityDigest => 4,
         }
     }
 
-    fn of_number(number: u64) -> Kind
+    fn of_number(number: u64) -> PropertyKind
         ensures { (property : Property) → number ≡ kind_number property → result ≡ kind_of property }
     {
         match number {
-            0 => Kind::BootVerified,
-            1 => Kind::DmveritySignature,
-            2 => Kind::FsveritySignature,
-            3 => Kind::DmverityRoothash,
-            _ => Kind::FsverityDigest,
+            0 => PropertyKind::BootVerified,
+            1 => PropertyKind::DmveritySignature,
+            2 => PropertyKind::FsveritySignature,
+            3 => PropertyKind::DmverityRoothash,
+            _ => PropertyKind::FsverityDigest,
         }
     }
 }
@@ -103,7 +103,7 @@ impl Kind {
 /// algorithm and its digest have.
 #[derive(Clone, Copy)]
 pub(crate) struct PropertyHead {
-    pub kind: Kind,
+    pub kind: PropertyKind,
     pub wanted: bool,
     pub alg_len: usize,
     pub digest_len: usize,
@@ -114,10 +114,19 @@ impl PropertyHead {
         ensures { (property : Property) → IsPropertyHead word property → result ≡ told_of_property property }
     {
         PropertyHead {
-            kind: Kind::of_number(word % 256),
+            kind: PropertyKind::of_number(word % 256),
             wanted: word / 256 % 256 == 1,
             alg_len: (word / 0x1_0000 % 256) as usize,
             digest_len: (word / 0x100_0000 % 256) as usize,
         }
+    }
+
+    /// How many words the property has with the head.
+    pub fn words(self) -> u32
+        requires alg { self.alg_len ≤ 255 }
+        requires digest { self.digest_len ≤ 255 }
+        ensures { result ≡ 1 + words_for self.alg_len + words_for self.digest_len }
+    {
+        1 + words_for(self.alg_len) as u32 + words_for(self.digest_len) as u32
     }
 }

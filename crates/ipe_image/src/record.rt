@@ -7,7 +7,7 @@ ghost use Rattle.ipe_image.specs.Heads.{kind_code};
 ghost use Rattle.ipe_image.specs.Image.{action_number, property_image, records, rule_record, truth_number};
 ghost use Rattle.ipe_image.specs.Packing.{byte_words};
 
-use crate::head::{Kind, action_number};
+use crate::head::{PropertyKind, action_number};
 use crate::packing::word_of;
 use arrayvec::ArrayVec;
 use ipe_policy::{Action, Digest, Op, Properties, Property, Statement};
@@ -29,14 +29,14 @@ fn append_bytes(words: &mut RuleWords, bytes: &[u8])
     }
 }
 
-fn append_truth(words: &mut RuleWords, kind: Kind, wanted: bool)
+fn append_wanted(words: &mut RuleWords, kind: PropertyKind, wanted: bool)
     requires { array_vec_len words.old + 1 ≤ 176 }
     ensures { words.new.items ≡ words.old.items ++ (kind_code kind + 2 ^ 8 * truth_number wanted) ∷ [] }
 {
     words.push(kind.number() + 256 * u64::from(wanted));
 }
 
-fn append_digest(words: &mut RuleWords, kind: Kind, digest: &Digest)
+fn append_digest(words: &mut RuleWords, kind: PropertyKind, digest: &Digest)
     requires { array_vec_len words.old + 11 ≤ 176 }
     ensures words { words.new.items ≡ words.old.items
         ++ (kind_code kind + 2 ^ 16 * length digest.now.alg + 2 ^ 24 * length digest.now.bytes)
@@ -58,19 +58,27 @@ fn append_property(words: &mut RuleWords, property: &Property)
     ensures few { property_words property.now ≤ 11 }
 {
     match property {
-        Property::BootVerified(wanted) => append_truth(words, Kind::BootVerified, *wanted),
-        Property::DmveritySignature(wanted) => append_truth(
+        Property::BootVerified(wanted) => append_wanted(words, PropertyKind::BootVerified, *wanted),
+        Property::DmveritySignature(wanted) => append_wanted(
             words,
-            Kind::DmveritySignature,
+            PropertyKind::DmveritySignature,
             *wanted,
         ),
-        Property::FsveritySignature(wanted) => append_truth(
+        Property::FsveritySignature(wanted) => append_wanted(
             words,
-            Kind::FsveritySignature,
+            PropertyKind::FsveritySignature,
             *wanted,
         ),
-        Property::DmverityRoothash(digest) => append_digest(words, Kind::DmverityRoothash, digest),
-        Property::FsverityDigest(digest) => append_digest(words, Kind::FsverityDigest, digest),
+        Property::DmverityRoothash(digest) => append_digest(
+            words,
+            PropertyKind::DmverityRoothash,
+            digest,
+        ),
+        Property::FsverityDigest(digest) => append_digest(
+            words,
+            PropertyKind::FsverityDigest,
+            digest,
+        ),
     }
 }
 

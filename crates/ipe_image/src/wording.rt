@@ -1,28 +1,27 @@
 ghost use Rattle.std.specs.Prelude.{◌≡◌, ◌≤◌, ◌∷◌, ◌++◌, ℕ, IfOk, List, OnOk, Some};
 ghost use Rattle.std.specs.List.{flat_map};
 ghost use Rattle.std.specs.Option.{option_map};
-ghost use Rattle.ipe_policy.specs.Spelling.{action_token, digest_word, op_token, property_token, statement_text, truth_word};
+ghost use Rattle.ipe_policy.specs.Spelling.{action_token, digest_word, op_token, property_token, statement_text};
+ghost use Rattle.ipe_policy.specs.Evaluation.{deciding_statement};
 ghost use Rattle.ipe_policy.specs.declared.evaluation.Context.{Context};
+ghost use Rattle.ipe_policy.specs.declared.statement.Statement.{Statement};
 ghost use Rattle.ipe_policy.specs.declared.statement.Property.{Property};
-ghost use Rattle.ipe_image.specs.Answer.{IsAnswer, IsHit};
-ghost use Rattle.ipe_image.specs.Decision.{deciding};
-ghost use Rattle.ipe_image.specs.Heads.{AreProperties, IsWordsOf};
+ghost use Rattle.ipe_image.specs.Answer.{IsHit, IsRuling};
+ghost use Rattle.ipe_image.specs.Heads.{ArePropertyImages, IsWordsOf};
 ghost use Rattle.ipe_image.specs.Image.{named_digest};
-ghost use Rattle.ipe_image.specs.Packing.{bytes_in};
-ghost use Rattle.ipe_image.specs.Parts.{ImageParts};
-ghost use Rattle.ipe_image.specs.Reading.{image_in};
+ghost use Rattle.ipe_image.specs.Packing.{unpacked};
 
 use crate::Hit;
-use crate::head::Kind;
+use crate::head::PropertyKind;
 use crate::property::{PropertyWords, first_property};
 use arrayvec::ArrayVec;
-use ipe_policy::{Action, Op, Statement, Which, statement_text, truth_word};
+use ipe_policy::{Action, Op, Statement, Which, append_truth, statement_text};
 use std::alloc::{AllocError, Global};
 
 // The first bytes of words, so many.
 fn bytes_of(words: &[u64], count: usize) -> ArrayVec<u8, 64>
     requires { count ≤ 64 }
-    ensures { result.items ≡ bytes_in count words.now }
+    ensures { result.items ≡ unpacked count words.now }
 {
     let mut bytes = ArrayVec::new();
     for word in words {
@@ -30,13 +29,6 @@ fn bytes_of(words: &[u64], count: usize) -> ArrayVec<u8, 64>
         let _fits = bytes.try_extend_from_slice(&word.to_le_bytes()[..left.min(8)]);
     }
     bytes
-}
-
-fn append_truth(text: &mut Vec<u8>, key: &[u8], wanted: bool) -> Result<(), AllocError>
-    ensures { OnOk result (text.new.items ≡ text.old.items ++ (key.now ++ truth_word wanted)) }
-{
-    text.extend_from_slice(key)?;
-    text.extend_from_slice(truth_word(wanted).as_bytes())
 }
 
 fn append_digest(
@@ -69,17 +61,22 @@ fn append_property(
 {
     let wanted = property.head.wanted;
     match property.head.kind {
-        Kind::BootVerified => append_truth(text, b"boot_verified=", wanted),
-        Kind::DmveritySignature => append_truth(text, b"dmverity_signature=", wanted),
-        Kind::FsveritySignature => append_truth(text, b"fsverity_signature=", wanted),
-        Kind::DmverityRoothash => append_digest(alloc, text, b"dmverity_roothash=", property),
-        Kind::FsverityDigest => append_digest(alloc, text, b"fsverity_digest=", property),
+        PropertyKind::BootVerified => append_truth(text, b"boot_verified=", wanted),
+        PropertyKind::DmveritySignature => append_truth(text, b"dmverity_signature=", wanted),
+        PropertyKind::FsveritySignature => append_truth(text, b"fsverity_signature=", wanted),
+        PropertyKind::DmverityRoothash => append_digest(
+            alloc,
+            text,
+            b"dmverity_roothash=",
+            property,
+        ),
+        PropertyKind::FsverityDigest => append_digest(alloc, text, b"fsverity_digest=", property),
     }
 }
 
 fn append_properties(alloc: Global, text: &mut Vec<u8>, words: &[u64]) -> Result<(), AllocError>
-    requires { (properties : List Property) × AreProperties words.now properties }
-    ensures { (properties : List Property) → AreProperties words.now properties →
+    requires { (properties : List Property) × ArePropertyImages words.now properties }
+    ensures { (properties : List Property) → ArePropertyImages words.now properties →
         OnOk result (text.new.items
         ≡ text.old.items ++ flat_map (λ property. 32 ∷ property_token property) properties) }
 {
@@ -95,8 +92,8 @@ fn append_properties(alloc: Global, text: &mut Vec<u8>, words: &[u64]) -> Result
 
 // The text of a rule, of whose record these are the words after the head.
 fn rule_line(alloc: Global, op: Op, action: Action, words: &[u64]) -> Result<Vec<u8>, AllocError>
-    requires { (properties : List Property) × AreProperties words.now properties }
-    ensures { (properties : List Property) → AreProperties words.now properties →
+    requires { (properties : List Property) × ArePropertyImages words.now properties }
+    ensures { (properties : List Property) → ArePropertyImages words.now properties →
         IfOk result (λ text. text.items
         ≡ op_token op ++ (flat_map (λ property. 32 ∷ property_token property) properties ++ 32 ∷ action_token action)) }
 {
@@ -109,13 +106,12 @@ fn rule_line(alloc: Global, op: Op, action: Action, words: &[u64]) -> Result<Vec
     Ok(text)
 }
 
-/// The statement that decided, as a policy's text has it: the rule with its properties, or the default. `op` is the
-/// operation for which the hit was answered.
+/// The statement of the policy that decided, as its text has it: the rule with its properties, or the default. `op` is
+/// the operation for which the hit was answered.
 pub fn rule_text(alloc: Global, op: Op, hit: &Hit) -> Result<Vec<u8>, AllocError>
     requires { IsHit op hit.now }
-    ensures { (words : List ℕ) (parts : ImageParts) (context : Context) → image_in words ≡ Some parts →
-        IsAnswer parts op context hit.now →
-        IfOk result (λ text. option_map statement_text (deciding parts op hit.now.found) ≡ Some text.items) }
+    ensures { (serial : ℕ) (items : List Statement) (context : Context) → IsRuling serial items op context hit.now →
+        IfOk result (λ text. option_map statement_text (deciding_statement items op context) ≡ Some text.items) }
 {
     let action = hit.found.action;
     match hit.found.which {

@@ -22,7 +22,7 @@ pub use image::image_words;
 pub use op::{Action, Op};
 pub use policy::{Policy, Statements};
 pub use request::{Hook, Kind, Object, Request, Subject};
-pub use spelling::{bit_text, print, statement_text, truth_word};
+pub use spelling::{append_truth, bit_text, print, statement_text};
 pub use statement::{Digest, Properties, Property, Statement};
 pub use version::Version;
 pub use words::{AlgName, Comm, DevName, DigestBytes, Name, PathName};

@@ -19,14 +19,14 @@ fn append_action(text: &mut Vec<u8>, action: Action) -> Result<(), AllocError>
     text.extend_from_slice(action.word().as_bytes())
 }
 
-/// The word of a truth value in a policy.
-pub fn truth_word(wanted: bool) -> &'static str
+fn truth_word(wanted: bool) -> &'static str
     ensures { result.now ≡ truth_word wanted }
 {
     if wanted { "TRUE" } else { "FALSE" }
 }
 
-fn append_truth(text: &mut Vec<u8>, key: &[u8], wanted: bool) -> Result<(), AllocError>
+/// Puts a key after a text, and the word of a truth value after the key.
+pub fn append_truth(text: &mut Vec<u8>, key: &[u8], wanted: bool) -> Result<(), AllocError>
     ensures { OnOk result (text.new.items ≡ text.old.items ++ (key.now ++ truth_word wanted)) }
 {
     text.extend_from_slice(key)?;

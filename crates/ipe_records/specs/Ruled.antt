@@ -6,7 +6,7 @@ use Rattle.ipe_image.specs.declared.hit.Hit.{Hit}
 use Rattle.ipe_image.specs.Reader.{filled}
 use Rattle.ipe_image.specs.Parts.{ImageParts, parts_of}
 use Rattle.ipe_image.specs.Reading.{image_in}
-use Rattle.ipe_image.specs.Answer.{IsAnswer}
+use Rattle.ipe_image.specs.Answer.{IsRuling}
 use Rattle.ipe_machine.specs.Policies as state
 use Rattle.ipe_machine.specs.Policies.{Policies, active_entry, policy_in}
 
@@ -15,10 +15,8 @@ abbrev pub parts_in : state.Loaded → ImageParts
 parts_in entry = parts_of entry.serial (policy_in entry.text).items
 
 -- the image of an entry's policy decides this of a file
-pub record IsRuledBy (entry : state.Loaded) (op : Op) (context : Context) (hit : Hit) : Type 0 where
-  pub words : List ℕ
-  pub image : image_in words ≡ Some (parts_in entry)
-  pub answer : IsAnswer (parts_in entry) op context hit
+abbrev pub IsRuledBy : state.Loaded → Op → Context → Hit → Type 0
+IsRuledBy entry op context hit = IsRuling entry.serial (policy_in entry.text).items op context hit
 
 -- an image that is kept, if one is, is that of this entry's policy
 abbrev pub IsImageOf : state.Loaded → Option (List ℕ) → Type 0

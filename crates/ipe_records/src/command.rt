@@ -68,7 +68,6 @@ fn load_record(alloc: Global, entry: &Entry) -> Result<Vec<u8>, AllocError>
 }
 
 // The record of a change of the active policy to this entry.
-#[tactic(auto, using(crate::proofs::Seen::seen_is))]
 fn activation_record(
     alloc: Global,
     registry: &Registry,

@@ -5,7 +5,6 @@ use Rattle.ipe_policy.specs.Spelling.{rule_words}
 use Rattle.ipe_policy.specs.Statement.{RuleParts}
 use Rattle.ipe_image.specs.declared.head.RuleHead.{RuleHead}
 use Rattle.ipe_image.specs.Parts.{ImageParts}
-use Rattle.ipe_image.specs.Image.{rule_record}
 use Rattle.ipe_image.specs.Heads.{IsRuleHead, told_of_rule}
 use Rattle.ipe_image.specs.Found.{BeginsWithImage, IsRecordAt}
 use Rattle.ipe_image.proofs.Places.{complete-facts, Places, places}
@@ -62,8 +61,8 @@ word-requires g c =
     let within = r.stands.within in
     omega arith
 
-pub matching_record-requires : goal.matching_record-requires
-matching_record-requires g c =
+pub is_match-requires : goal.is_match-requires
+is_match-requires g c =
     let words = g.R.WordReader.words c.args.reader.now in
     let r = next-rule words c.requires.0 c.args.op c.args.context.now c.loop-index.at c.loop-index._index
     c.word-count.result c.requires.1
@@ -72,21 +71,22 @@ matching_record-requires g c =
     c.word.ensures.word c.read-head.ensures r in
     (c.loop-index._index + 1, t.found.rule, t.stands, t.head_is)
 
-pub returns-in-Some-clause-found : goal.returns-in-Some-clause-found
-returns-in-Some-clause-found g c parts h =
+pub returns-then-is_match-clause-found : goal.returns-then-is_match-clause-found
+returns-then-is_match-clause-found g c parts h =
     let words = g.R.WordReader.words c.args.reader.now in
     let r = next-rule words parts c.args.op c.args.context.now c.loop-index.at c.loop-index._index c.word-count.result h
     c.word-count.ensures.word c.loop-index-test.true (c.loop-index.invariant.2 parts h) in
     let t = turn words _ _ _ _ _ _ _ _ c.read-head.result c.loop-index.invariant.0 c.word.ensures.stays
     c.word.ensures.word c.read-head.ensures r in
-    let found = c.in-Some.ensures.found (c.loop-index._index + 1) t.found.rule t.stands t.head_is in
+    let found = c.if-is_match.ensures.matches (c.loop-index._index + 1) t.found.rule t.stands t.head_is in
     let number : c.read-head.result.number ≡ c.loop-index._index + 1 =
     ap (λ (head : RuleHead). head.number) t.head_is in
     record {
       matched = t.found.rule;
-      first = t.found.found found.0 ∙ ap (λ (n : ℕ). Some (n, t.found.rule)) (sym number);
+      first = t.found.found (sym found) ∙ ap (λ (n : ℕ). Some (n, t.found.rule)) (sym number);
       action = ap (λ (head : RuleHead). head.action) t.head_is;
-      words = found.1 ∙ ap (λ (n : ℕ). rule_record n t.found.rule) (sym number);
+      stands = subst (λ (n : ℕ). IsRecordAt words c.loop-index.at n t.found.rule) (sym number) t.found.stands;
+      size = ap (λ (head : RuleHead). head.words) t.head_is;
     }
 
 pub overflow_add-at : goal.overflow_add-at
@@ -103,8 +103,8 @@ overflow_add-at g c =
 
 pub loop-index-preserved : goal.loop-index-preserved
 loop-index-preserved g c = (
-  c.matching_record.ensures.stays ∙ c.word.ensures.stays ∙ c.loop-index.invariant.0,
-  c.matching_record.ensures.kept ∙ c.word.ensures.kept ∙ c.loop-index.invariant.1,
+  c.is_match.ensures.stays ∙ c.word.ensures.stays ∙ c.loop-index.invariant.0,
+  c.is_match.ensures.kept ∙ c.word.ensures.kept ∙ c.loop-index.invariant.1,
   λ parts h.
       let words = g.R.WordReader.words c.args.reader.now in
       let r = next-rule words parts c.args.op c.args.context.now c.loop-index.at c.loop-index._index
@@ -115,7 +115,7 @@ loop-index-preserved g c = (
       let size : c.read-head.result.words ≡ rule_words t.found.rule = ap (λ (head : RuleHead). head.words) t.head_is in
       subst (λ (n : ℕ). AtRule words parts c.args.op c.args.context.now (c.loop-index.at + n)
       (c.loop-index._index + 1 + 1)) (sym size)
-      (t.found.next (c.in_default.ensures.found (c.loop-index._index + 1) t.found.rule t.stands t.head_is)),
+      (t.found.next (sym (c.if-is_match.ensures.matches (c.loop-index._index + 1) t.found.rule t.stands t.head_is))),
 )
 
 pub returns-clause-found : goal.returns-clause-found

@@ -4,7 +4,7 @@ use borrow.Author.Tests.{leb-true}
 use Rattle.std.proofs.lemmas.Bool.{and_parts}
 use Rattle.ipe_policy.specs.Spelling.{words_for}
 use Rattle.ipe_image.specs.Packing.{byte_words}
-use Rattle.ipe_image.proofs.Bytes.{length-words_of}
+use Rattle.ipe_image.proofs.Bytes.{length-packed_words}
 use Rattle.ipe_image.proofs.record.append_digest.Goals as goal
 
 pub append_bytes-requires-2 : goal.append_bytes-requires-2
@@ -22,7 +22,7 @@ append_bytes-requires-2 c =
     (length c.as_slice-alg.result.now) =
     ap length c.append_bytes.ensures.words
     ∙ length-append c.push.new.self.items (byte_words c.as_slice-alg.result.now)
-    ∙ ap (λ (n : ℕ). length c.push.new.self.items + n) (length-words_of (words_for
+    ∙ ap (λ (n : ℕ). length c.push.new.self.items + n) (length-packed_words (words_for
     (length c.as_slice-alg.result.now)) c.as_slice-alg.result.now) in
     omega arith
 

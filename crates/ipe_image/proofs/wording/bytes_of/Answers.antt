@@ -1,7 +1,7 @@
 use Rattle.std.proofs.Common.{◌≡◌, ◌∙◌, ◌+◌, ◌-◌, ◌<◌, ◌≤◌, ◌++◌, List, ℕ, length, take, drop, min, get_or, ap, sym, arith, append_assoc, length-append, length-take}
 use Rattle.std.specs.Prelude.{Result, Ok, Err, IsOk, OnOk}
 use Rattle.std.specs.Int.{w64, to_le_bytes}
-use Rattle.ipe_image.specs.Packing.{bytes_in}
+use Rattle.ipe_image.specs.Packing.{unpacked}
 use Rattle.ipe_image.proofs.Unpacking.{next-piece}
 use Rattle.ipe_image.proofs.wording.bytes_of.Goals as goal
 
@@ -28,8 +28,8 @@ loop-word-preserved c =
     (c.try_extend_from_slice-fits.ensures.variant.1 fits) c.try_extend_from_slice-fits.ensures.ok in
     let count : length new ≡ length old + length piece = ap length pushed ∙ length-append old piece in
     let some : i < length words = omega arith in
-    let rest = bytes_in (c.args.count - length new) (drop (i + 1) words) in
-    let next : bytes_in (c.args.count - length old) (drop i words) ≡ take c.min.result (to_le_bytes w64
+    let rest = unpacked (c.args.count - length new) (drop (i + 1) words) in
+    let next : unpacked (c.args.count - length old) (drop i words) ≡ take c.min.result (to_le_bytes w64
     (get_or words i 0)) ++ rest =
     next-piece words i (c.args.count - length old) c.min.result (c.args.count - length new) some (omega arith)
     (omega arith) in (

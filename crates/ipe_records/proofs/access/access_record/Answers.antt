@@ -1,9 +1,8 @@
 use Rattle.std.proofs.Common.{◌≡◌, Some, option_copied, List, ℕ, sym, ap, ◌∙◌}
 use Rattle.ipe_policy.specs.Request.{evaluated_op, hook_of}
-use Rattle.ipe_image.specs.Decision.{deciding}
+use Rattle.ipe_policy.specs.Evaluation.{deciding_statement}
 use Rattle.ipe_audit.specs.Records.{decided_text}
-use Rattle.ipe_machine.specs.Policies.{active_entry}
-use Rattle.ipe_records.specs.Ruled.{parts_in}
+use Rattle.ipe_machine.specs.Policies.{active_entry, policy_in}
 use Rattle.ipe_records.proofs.Told.{access_told}
 use Rattle.ipe_records.proofs.access.access_record.Goals as goal
 
@@ -12,7 +11,6 @@ returns-clause-access c =
     let policies = c.args.registry.now in
     let op = c.in-Some-Some.op in
     let entry = c.in-Some-Some.entry.now in
-    let hit = c.in_ok-hit.hit in
     let request = c.args.request in
     let subject = c.args.subject.now in
     let object = c.args.object.now in
@@ -20,9 +18,10 @@ returns-clause-access c =
     let ruled = c.in_ok-hit.ensures.hit in
     let asked : evaluated_op request ≡ Some op = cc in
     let active : active_entry policies ≡ Some entry = sym c.active_entry.ensures ∙ ap option_copied c.in-Some-Some.is-1 in
-    let line = c.in_ok-line.ensures ruled.words (parts_in entry) context ruled.image ruled.answer in
+    let items = (policy_in entry.text).items in
+    let line = c.in_ok-line.ensures entry.serial items context ruled in
     let told : decided_text op (hook_of request) policies.enforce subject object
-    (deciding (parts_in entry) op hit.found) ≡ Some c.in_ok-line.line.items =
+    (deciding_statement items op context) ≡ Some c.in_ok-line.line.items =
     rw (← c.hook.ensures, ← c.enforce-enforce.ensures) line in
     ap (λ (text : List ℕ). Some text) c.from_vec.ensures
-    ∙ sym (access_told c.images_are_read_as_themselves.ensures.decides policies request subject object context op entry hit c.in_ok-line.line.items asked active c.requires.due ruled told)
+    ∙ sym (access_told c.images_are_read_as_themselves.ensures.decides c.images_are_read_as_themselves.ensures.statement policies request subject object context op entry c.in_ok-hit.hit c.in_ok-line.line.items asked active c.requires.due ruled told)

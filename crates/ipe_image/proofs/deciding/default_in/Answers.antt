@@ -9,7 +9,7 @@ use Rattle.ipe_image.specs.Parts.{own_default}
 use Rattle.ipe_image.specs.Decision.{default_found}
 use Rattle.ipe_image.specs.Found.{BeginsWithImage}
 use Rattle.ipe_image.proofs.Places.{complete-facts, Places, places, default-read, some-default}
-use Rattle.ipe_image.proofs.deciding.default_of.Goals as goal
+use Rattle.ipe_image.proofs.deciding.default_in.Goals as goal
 
 -- where the parts stand in words that begin with their image
 at : (words : List ℕ) (parts : ImageParts) (h : BeginsWithImage words parts) → Places words parts h.behind
