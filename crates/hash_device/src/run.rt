@@ -1,7 +1,7 @@
 ghost use Rattle.std.specs.Prelude.{◌≡◌, ◌≢◌, IfOk, IfSome, None, OnErr, map, string_bytes};
 ghost use Rattle.hash_device.specs.Asked.{asked_by};
 ghost use Rattle.ipe_program.specs.Asked.{HasRule};
-ghost use Rattle.ipe_program.specs.Serving.{Runs, handed};
+ghost use Rattle.ipe_program.specs.Shell.{Runs, handed};
 
 use blk_device::Devices;
 use ipe_program::{Asked, TreePart, serve, tree_by};

@@ -4,4 +4,4 @@ pub mod Tree
 pub mod Measure
 pub mod Asked
 pub mod Table
-pub mod Serving
+pub mod Shell

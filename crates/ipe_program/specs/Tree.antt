@@ -12,8 +12,8 @@ use Rattle.line_words.specs.Lines.{line_text}
 use Rattle.ipe_program.specs.declared.asked.ImageTree.{ImageTree}
 use Rattle.ipe_program.specs.declared.asked.TreePart.{TreePart}
 use Rattle.ipe_program.specs.declared.asked.TreePart.TheVariants.{Root, HashBlocks}
-use Rattle.ipe_program.specs.declared.telling.Refusal.{Refusal}
-use Rattle.ipe_program.specs.declared.telling.Refusal.TheVariants.{Missing, TooLarge, BadSize}
+use Rattle.ipe_program.specs.declared.tree.Refusal.{Refusal}
+use Rattle.ipe_program.specs.declared.tree.Refusal.TheVariants.{Missing, TooLarge, BadSize}
 
 -- the most bytes of a device
 abbrev pub most_device : ℕ

@@ -4,10 +4,10 @@ ghost use Rattle.ipe_program.specs.Table.{Fits, HasText, IsAnswer, held_for, row
 ghost use Rattle.ipe_words.specs.Count.{Rose};
 
 use crate::Asked;
-use crate::linting::linted;
-use crate::measuring::measured;
-use crate::replaying::replayed;
-use crate::telling::tree_told;
+use crate::file_digest::measured;
+use crate::linter::linted;
+use crate::replay::replayed;
+use crate::tree::tree_told;
 use blk_device::Devices;
 use ipe_words::Status;
 use std::alloc::{AllocError, Global};

@@ -8,16 +8,16 @@
 mod answers;
 mod asked;
 mod edge;
-mod linting;
-mod measuring;
-mod replaying;
-mod serving;
-mod telling;
+mod file_digest;
+mod linter;
+mod replay;
+mod shell;
+mod tree;
 
 pub use asked::{Asked, FileTree, ImageTree, TreePart, tree_by};
 pub use edge::arguments;
-pub use serving::{lint, measure, root, run, serve};
-pub use telling::Refusal;
+pub use shell::{lint, measure, root, run, serve};
+pub use tree::Refusal;
 
 #[cfg(test)]
 mod tests;

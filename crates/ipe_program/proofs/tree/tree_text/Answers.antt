@@ -6,7 +6,7 @@ use Rattle.hash_tree.specs.Tree.{root}
 use Rattle.dmv_tree.specs.Tree.{RootAndBytes}
 use Rattle.ipe_program.specs.Tree.{root_line, tree_text}
 use Rattle.ipe_program.specs.declared.asked.TreePart.{TreePart}
-use Rattle.ipe_program.proofs.telling.tree_text.Goals as goal
+use Rattle.ipe_program.proofs.tree.tree_text.Goals as goal
 
 -- equal parts are told by equal lines
 same_line : (one other : List ℕ) (L M count number : ℕ) → one ≡ other → L ≡ M → count ≡ number →

@@ -4,7 +4,7 @@ use Rattle.ipe_program.specs.Replay.{IsReplay, IsBadLine}
 use Rattle.ipe_program.specs.Table.{ByStatus}
 use Rattle.ipe_program.specs.declared.answers.Answer.{Answer}
 use Rattle.ipe_history.specs.Spelled.{spelled}
-use Rattle.ipe_program.proofs.replaying.replayed.Goals as goal
+use Rattle.ipe_program.proofs.replay.replayed.Goals as goal
 
 pub replay-requires : goal.replay-requires
 replay-requires c = omega (arith, c.requires, c.requests_are_in_file_order.ensures.few c.args.input.now c.in-Ok.requests c.in-Ok.ensures.asked)

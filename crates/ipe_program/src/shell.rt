@@ -1,6 +1,6 @@
 ghost use Rattle.std.specs.Prelude.{◌≡◌, IfOk, IsErrOf, None, false, map, string_bytes};
 ghost use Rattle.ipe_program.specs.Asked.{HasRule, asked_by};
-ghost use Rattle.ipe_program.specs.Serving.{IsRead, Runs, Serves, handed, nothing};
+ghost use Rattle.ipe_program.specs.Shell.{IsRead, Runs, Serves, handed, nothing};
 ghost use Rattle.ipe_program.specs.Table.{HasText, IsAnswer, WhereTold, row};
 ghost use Rattle.ipe_words.specs.Count.{Rose};
 
