@@ -1,4 +1,4 @@
--- What the program's words ask of it.
+-- What the program's arguments ask of it.
 use Rattle.std.specs.Prelude.{⊤, ℕ, ◌≤◌, Bool, ◌==◌, codes, if◌then◌else◌, IsTrue, List, [], ◌∷◌, length, Option, Some, None}
 use Rattle.std.specs.Option.{option_and_then}
 use Rattle.dmv_tree.specs.Blocks.{is_block_size}
@@ -24,7 +24,7 @@ measure_of None salt = None
 measure_of (Some size) None = None
 measure_of (Some size) (Some salt) = Some (Measure (record { block_size = size; salt = salt }))
 
--- what two words ask to be measured with: the size of a block and the salt of at most 32 bytes
+-- what two arguments ask to be measured with: the size of a block and the salt of at most 32 bytes
 abbrev pub measure_by : List ℕ → List ℕ → Option Asked
 measure_by size salt = measure_of (file_block_size_of size) (salt_of 64 salt)
 
@@ -35,11 +35,11 @@ tree_of part (Some size) None device = None
 tree_of part (Some size) (Some salt) device =
     if is_device device then Some (Tree part (record { block_size = size; salt = salt; device = device })) else None
 
--- the tree that three words ask for: the size of a block, the salt of at most 256 bytes and the device
+-- the tree that three arguments ask for: the size of a block, the salt of at most 256 bytes and the device
 abbrev pub tree_by : TreePart → List ℕ → List ℕ → List ℕ → Option Asked
 tree_by part size salt device = tree_of part (block_size_of size) (salt_of 512 salt) device
 
--- what the words ask for: one word `replay` or `lint`, `measure` and two words, or `root` and three words
+-- what the arguments ask for: `replay` or `lint` alone, `measure` and two more, or `root` and three more
 abbrev pub asked_by : List (List ℕ) → Option Asked
 asked_by [] = None
 asked_by (word ∷ []) =

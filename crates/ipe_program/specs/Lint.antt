@@ -14,7 +14,7 @@ use Rattle.ipe_parse.specs.declared.error.BadText.TheVariants.{Bad, NoDefault}
 use Rattle.ipe_parse.specs.Reading.{reading}
 use Rattle.line_words.specs.Lines.{line_text}
 
--- a policy's name, version, number of rules and number of image words
+-- a policy's name, version, number of rules and number of 64-bit words of its image
 abbrev pub lint_text : PolicyParts → List ℕ
 lint_text policy =
     codes "ok " ++ policy.name ++ (codes " " ++ version_text policy.version ++ codes " rules="

@@ -83,7 +83,7 @@ IsRefusedFor items tree Missing = IsMissing items tree
 IsRefusedFor items tree TooLarge = IsTooLarge items tree
 IsRefusedFor items tree BadSize = IsBadSize items tree
 
--- the words of a refusal
+-- how a refusal is spelled
 abbrev pub refusal_words : Refusal → List ℕ
 refusal_words Missing = codes "missing"
 refusal_words TooLarge = codes "too large"

@@ -1,8 +1,8 @@
-//! The program `ipegate` as a library: from words, a source and devices to a sink.
+//! The program `ipegate` as a library: from arguments, a source and devices to a sink.
 //!
-//! [`run`] reads what its words ask and serves it. What can be asked is the enum [`Asked`], and [`serve`] is the one shell
-//! around all of it: it reads the source as far as that is wanted, makes the whole answer, and writes it. [`lint`],
-//! [`measure`] and [`root`] serve without words.
+//! [`run`] reads what its arguments ask for and serves it. What can be asked for is the enum [`Asked`], and [`serve`] is the
+//! one shell around all of it: it reads the source as far as that is wanted, makes the whole answer, and writes it. [`lint`],
+//! [`measure`] and [`root`] serve without arguments.
 #![tactic(auto)]
 
 mod answers;
