@@ -49,9 +49,9 @@ pub(crate) fn place_of(entries: &[Entry], name: &Name) -> Option<usize>
 }
 
 impl Registry {
-    ghost use Rattle.std.specs.Prelude.{◌≡◌, ◌≤◌, IfOk, length};
+    ghost use Rattle.std.specs.Prelude.{◌≡◌, ◌<◌, ◌≤◌, IfOk, IfSome, length};
     ghost use Rattle.std.specs.Option.{option_copied};
-    ghost use Rattle.ipe_machine.specs.Policies.{active_entry, entry_named, first_policies, is_active};
+    ghost use Rattle.ipe_machine.specs.Policies.{active_entry, entry_named, first_policies, is_active, place_of};
 
     /// Nothing is loaded, enforce is on and success_audit off. It has room for 32 policies.
     pub fn new(alloc: Global) -> Result<Registry, AllocError>
@@ -73,6 +73,14 @@ impl Registry {
         ensures few { length self.now.loaded ≤ 32 }
     {
         self.entries.as_slice()
+    }
+
+    /// The place of the policy of this name among the entries, where it is loaded.
+    pub fn place(&self, name: &Name) -> Option<usize>
+        ensures place { result ≡ place_of name.now self.now.loaded }
+        ensures within { IfSome result (λ place. place < length self.now.loaded) }
+    {
+        place_of(&self.entries, name)
     }
 
     /// The entry of the policy of this name, where it is loaded.
