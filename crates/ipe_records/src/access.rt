@@ -1,4 +1,5 @@
 ghost use Rattle.std.specs.Prelude.{◌≡◌, true, IfOk, Some};
+ghost use Rattle.ipe_image.specs.Image.{image_of};
 ghost use Rattle.ipe_image.specs.Reader.{filled};
 ghost use Rattle.ipe_image.specs.Reading.{image_in};
 ghost use Rattle.ipe_records.specs.Records.{access_of, is_access_due};
@@ -12,18 +13,27 @@ use ipe_policy::{Context, Object, Op, Request, Subject};
 use ipe_registry::{Entry, Registry};
 use std::alloc::{AllocError, Global};
 
-// The image that is kept, or else the policy's, compiled. A loaded policy isn't too wide.
-fn image_of(alloc: Global, kept: Option<Image>, entry: &Entry) -> Result<Image, AllocError>
-    requires { IsImageOf entry.now kept }
-    ensures { IfOk result (λ image. image_in (filled 4096 image) ≡ Some (parts_in entry.now)) }
+/// The image of a loaded policy, which isn't too wide, with its serial.
+pub fn image_of(alloc: Global, entry: &Entry) -> Result<Image, AllocError>
+    ensures image { IfOk result (λ image. image ≡ image_of (parts_in entry.now)) }
+    ensures told { IfOk result (λ image. image_in image ≡ Some (parts_in entry.now)) }
+    ensures filled { IfOk result (λ image. image_in (filled 4096 image) ≡ Some (parts_in entry.now)) }
 {
-    if let Some(image) = kept {
-        return Ok(image);
-    }
     match compile(alloc, &entry.policy, entry.serial) {
         Ok(image) => Ok(image),
         Err(CompileError::NoMemory) => Err(AllocError),
         Err(CompileError::TooWide { .. }) => unreachable!(),
+    }
+}
+
+// The image that is kept, or else the policy's, compiled.
+fn kept_or_made(alloc: Global, kept: Option<Image>, entry: &Entry) -> Result<Image, AllocError>
+    requires { IsImageOf entry.now kept }
+    ensures { IfOk result (λ image. image_in (filled 4096 image) ≡ Some (parts_in entry.now)) }
+{
+    match kept {
+        Some(image) => Ok(image),
+        None => image_of(alloc, entry),
     }
 }
 
@@ -39,7 +49,7 @@ fn hit_of(
     ensures hit { IfOk result (IsRuledBy entry.now op context.now) }
     ensures kept { IsImageOf entry.now kept.new }
 {
-    let image = image_of(alloc, kept.take(), entry)?;
+    let image = kept_or_made(alloc, kept.take(), entry)?;
     let mut reader = SliceReader::new(image.words());
     let hit = decide_words(&mut reader, op, context);
     *kept = Some(image);

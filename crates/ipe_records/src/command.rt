@@ -1,4 +1,4 @@
-ghost use Rattle.std.specs.Prelude.{◌≡◌, ◌∷◌, [], IfOk};
+ghost use Rattle.std.specs.Prelude.{◌≡◌, ◌∷◌, [], IfOk, IsTrue, OnErr, is_some};
 ghost use Rattle.std.specs.Option.{option_copied, option_map, option_map_or};
 ghost use Rattle.ipe_audit.specs.Records.{load_text};
 ghost use Rattle.ipe_machine.specs.Change as change;
@@ -12,9 +12,10 @@ use ipe_registry::{Change, Entry, Plan, Registry, Step};
 use std::alloc::{AllocError, Global};
 
 /// The records of the command that comes to this plan on these policies, in their order. None is made by a refusal or
-/// where nothing is changed.
+/// where nothing is changed, and then no memory is taken.
 pub fn command_records(alloc: Global, registry: &Registry, plan: &Plan) -> Result<Lines, AllocError>
-    ensures { IfOk result (λ lines. lines ≡ records_with registry.now (change_in plan.now)) }
+    ensures records { IfOk result (λ lines. lines ≡ records_with registry.now (change_in plan.now)) }
+    ensures memory { OnErr result (IsTrue (is_some (change_in plan.now))) }
 {
     match plan {
         Plan::Refused(_) | Plan::Same(_) => Ok(no_lines(alloc)),

@@ -7,5 +7,5 @@
 mod access;
 mod command;
 
-pub use access::access_record;
+pub use access::{access_record, image_of};
 pub use command::command_records;
