@@ -5,11 +5,11 @@ use Rattle.std.proofs.lemmas.Bool.{eq-eqb}
 use Rattle.ipe_machine.specs.Policies.{Policies}
 use Rattle.ipe_machine.specs.Answer.{Verdicts}
 use Rattle.ipe_gate_rule.specs.declared.event.Event.{Event}
-use Rattle.ipe_gate_rule.specs.declared.event.Event.TheVariants.{Store, Switch, Claim, Return}
+use Rattle.ipe_gate_rule.specs.declared.event.Event.TheVariants.{Claim, Return}
 use Rattle.ipe_gate_rule.specs.History.{GoesOnFrom}
 use Rattle.ipe_gate_rule.specs.Owners.{is_by_pass, is_administrators, is_switch, own_events, administrator_events}
 use Rattle.ipe_weave.specs.Lines.{Acted, task_in}
-use Rattle.ipe_weave.specs.Acts.{Act, acts_of, is_claim_of}
+use Rattle.ipe_weave.specs.Acts.{Act, Since, acts_of, is_claim_of}
 use Rattle.ipe_weave.specs.Standing.{is_active, ClaimedAt, IsIdle, AnsweredBy, policies_after, CommandsRan, raised, policies_then, BeginsWith}
 use Rattle.ipe_weave.specs.Seats.{WorkerRan, AdminRan}
 use Rattle.ipe_weave.proofs.Founded.{Founded}
@@ -98,38 +98,33 @@ raised_last g policies (y ∷ ys) x = by ((policies_after g.basis.verdicts polic
     by true e = e
     by false e = ap (λ (ps : List Policies). next ∷ ps) e
 
--- a command that leaves the epoch
-pub admin_calms : (g : Founded) (policies : Policies) (first old : List Event) (xs : List Acted) (x : Acted) → AdminRan g.basis policies first old xs → AnsweredBy g.basis.verdicts (policies_behind g.basis.verdicts policies xs) x.line.task x.reply
-    → ((policies_after g.basis.verdicts (policies_behind g.basis.verdicts policies xs) x.line.task).epoch == (policies_behind g.basis.verdicts policies xs).epoch) ≡ true → AdminRan g.basis policies first old (xs ++ x ∷ [])
-admin_calms g policies first old xs x ran answered stays =
-    let none : raised g.basis.verdicts (policies_behind g.basis.verdicts policies xs) (x.line.task ∷ []) ≡ [] = rw stays refl in record {
-      since = ran.since;
-      ran = commands_last g policies xs x ran.ran answered;
-      switches = subst (AllZip (BeginsWith g.basis) ran.since.acts) (sym (raised_last g policies xs x ∙ ap (λ (ps : List Policies). raised g.basis.verdicts policies (map task_in xs) ++ ps) none ∙ append-nil (raised g.basis.verdicts policies (map task_in xs)))) ran.switches;
-    }
+zip_both : {A B : Type 0} (R : A → B → Type 0) (xs more : List A) (ys others : List B) → AllZip R xs ys → AllZip R more others → AllZip R (xs ++ more) (ys ++ others)
+zip_both R [] more [] others zip rest = rest
+zip_both R [] more (y ∷ ys) others zip rest = absurd zip
+zip_both R (x ∷ xs) more [] others zip rest = absurd zip
+zip_both R (x ∷ xs) more (y ∷ ys) others zip rest = (zip.0, zip_both R xs more ys others zip.1 rest)
 
--- a command that raises the epoch, at its switch
-pub admin_switches : (g : Founded) (policies : Policies) (first old before : List Event) (xs : List Acted) (x : Acted) (slot : ℕ) (e u : Bool) → AdminRan g.basis policies first old xs → GoesOnFrom before old → administrator_events before ≡ administrator_events old → AnsweredBy g.basis.verdicts (policies_behind g.basis.verdicts policies xs) x.line.task x.reply
-    → ((policies_after g.basis.verdicts (policies_behind g.basis.verdicts policies xs) x.line.task).epoch == (policies_behind g.basis.verdicts policies xs).epoch) ≡ false → g.basis.Begins (Switch slot e u) before (policies_after g.basis.verdicts (policies_behind g.basis.verdicts policies xs) x.line.task)
-    → AdminRan g.basis policies first (Switch slot e u ∷ before) (xs ++ x ∷ [])
-admin_switches g policies first old before xs x slot e u ran later same answered rises begins =
-    let act : Act = record { event = Switch slot e u; before = before } in
-    let one : raised g.basis.verdicts (policies_behind g.basis.verdicts policies xs) (x.line.task ∷ []) ≡ policies_after g.basis.verdicts (policies_behind g.basis.verdicts policies xs) x.line.task ∷ [] = rw rises refl in record {
-      since = record {
-        acts = ran.since.acts ++ act ∷ [];
-        came =
-            ap (λ (acts : List Act). acts ++ act ∷ []) (acts_quiet is_switch is_administrators switches_own before old later same ∙ ran.since.came)
-            ∙ append_assoc (acts_of is_switch first) ran.since.acts (act ∷ []);
-      };
-      ran = commands_last g policies xs x ran.ran answered;
-      switches = subst (AllZip (BeginsWith g.basis) (ran.since.acts ++ act ∷ [])) (sym (raised_last g policies xs x ∙ ap (λ (ps : List Policies). raised g.basis.verdicts policies (map task_in xs) ++ ps) one))
-          (zip_last (BeginsWith g.basis) ran.since.acts (raised g.basis.verdicts policies (map task_in xs)) act (policies_after g.basis.verdicts (policies_behind g.basis.verdicts policies xs) x.line.task) ran.switches begins);
-    }
+-- nothing ran yet
+pub admin_starts : (g : Founded) (policies : Policies) (first : List Event) → AdminRan g.basis policies first first []
+admin_starts g policies first = record { since = record { acts = []; came = sym (append-nil (acts_of is_switch first)) }; ran = tt; switches = tt }
 
--- a store or a look of the administrator's
-pub admin_stores : (g : Founded) (policies : Policies) (first old before : List Event) (xs : List Acted) (slot index word : ℕ) → AdminRan g.basis policies first old xs → GoesOnFrom before old → administrator_events before ≡ administrator_events old → AdminRan g.basis policies first (Store slot index word ∷ before) xs
-admin_stores g policies first old before xs slot index word ran later same = record {
-  since = record { acts = ran.since.acts; came = acts_quiet is_switch is_administrators switches_own before old later same ∙ ran.since.came };
+-- a write, with its switch where it raises the epoch, or a read
+pub admin_answers : (g : Founded) (policies : Policies) (first old new : List Event) (xs : List Acted) (x : Acted) → AdminRan g.basis policies first old xs → AnsweredBy g.basis.verdicts (policies_behind g.basis.verdicts policies xs) x.line.task x.reply
+    → (since : Since is_switch old new) → AllZip (BeginsWith g.basis) since.acts (raised g.basis.verdicts (policies_behind g.basis.verdicts policies xs) (x.line.task ∷ [])) → AdminRan g.basis policies first new (xs ++ x ∷ [])
+admin_answers g policies first old new xs x ran answered since switches = record {
+  since = record {
+    acts = ran.since.acts ++ since.acts;
+    came = since.came ∙ ap (λ (acts : List Act). acts ++ since.acts) ran.since.came ∙ append_assoc (acts_of is_switch first) ran.since.acts since.acts;
+  };
+  ran = commands_last g policies xs x ran.ran answered;
+  switches = subst (AllZip (BeginsWith g.basis) (ran.since.acts ++ since.acts)) (sym (raised_last g policies xs x))
+      (zip_both (BeginsWith g.basis) ran.since.acts since.acts (raised g.basis.verdicts policies (map task_in xs)) (raised g.basis.verdicts (policies_behind g.basis.verdicts policies xs) (x.line.task ∷ [])) ran.switches switches);
+}
+
+-- the administrator learnt of others, and made no step
+pub admin_meets : (g : Founded) (policies : Policies) (first old new : List Event) (xs : List Acted) → AdminRan g.basis policies first old xs → GoesOnFrom new old → administrator_events new ≡ administrator_events old → AdminRan g.basis policies first new xs
+admin_meets g policies first old new xs ran later same = record {
+  since = record { acts = ran.since.acts; came = acts_quiet is_switch is_administrators switches_own new old later same ∙ ran.since.came };
   ran = ran.ran;
   switches = ran.switches;
 }

@@ -1,15 +1,17 @@
 ghost use Rattle.ipe_gate_rule.specs.History.{GoesOnFrom, active_slot};
-ghost use Rattle.ipe_gate_rule.specs.Owners.{administrator_events, own_events};
-ghost use Rattle.ipe_gate_rule.specs.declared.event.Event.TheVariants.{Claim, Return, Store, Switch};
+ghost use Rattle.ipe_gate_rule.specs.Owners.{administrator_events, is_switch, own_events};
+ghost use Rattle.ipe_gate_rule.specs.declared.event.Event.TheVariants.{Claim, Return};
 ghost use Rattle.ipe_machine.specs.Policies.{Policies};
 ghost use Rattle.ipe_hooks.specs.Hooks.{IsHook};
 ghost use Rattle.ipe_hooks.specs.Law.{machine_ruling};
-ghost use Rattle.ipe_weave.specs.Gate.{GateBegins, gate_basis, image_at, ruling_by_image};
+ghost use Rattle.ipe_weave.specs.Acts.{Since};
+ghost use Rattle.ipe_weave.specs.Gate.{gate_basis, image_at, ruling_by_image};
 ghost use Rattle.ipe_weave.specs.Lines.{Acted, task_in};
 ghost use Rattle.ipe_weave.specs.Phases.{PhaseRan, PhasesRan};
 ghost use Rattle.ipe_weave.specs.Seats.{AdminRan, Closes, PhaseMet, PhasesDone, WorkerRan, policies_through};
-ghost use Rattle.ipe_weave.specs.Standing.{AnsweredBy, ClaimedAt, IsIdle, is_active, policies_after, policies_then};
-ghost use Rattle.std.specs.Prelude.{◌≡◌, ◌==◌, ◌++◌, ◌∷◌, [], List, false, map, true};
+ghost use Rattle.ipe_weave.specs.Standing.{AnsweredBy, BeginsWith, ClaimedAt, IsIdle, is_active, policies_then, raised};
+ghost use Rattle.std.specs.List.{AllZip};
+ghost use Rattle.std.specs.Prelude.{◌≡◌, ◌++◌, ◌∷◌, [], List, false, map, true};
 
 use ipe_image::images_are_read_as_themselves;
 use ipe_machine::commands_stay_or_begin;
@@ -42,28 +44,23 @@ pub fn workers_run_one_more()
     images_are_read_as_themselves();
 }
 
-/// The same of the administrator's lines: a write that leaves the epoch, and a read, make no switch; a write that raises
-/// it is answered at its switch; a store leaves what ran.
+/// The same of the administrator's lines: nothing ran at first; a write or a read is answered by the policies, and where
+/// a write raises the epoch one switch to the policies after it came, and none otherwise; what is learnt of others leaves
+/// what ran.
 pub fn administrator_runs_one_more()
-    ensures calms { (verdicts : _) (policies : _) (first : _) (old : _) (entries : _) (entry : Acted) →
+    ensures starts { (verdicts : _) (policies : _) (first : _) →
+        AdminRan (gate_basis verdicts) policies first first [] }
+    ensures answers { (verdicts : _) (policies : _) (first : _) (old : _) (new : _) (entries : _) (entry : Acted) →
         let now : Policies = policies_then verdicts policies (map task_in entries) in
         AdminRan (gate_basis verdicts) policies first old entries →
         AnsweredBy verdicts now entry.line.task entry.reply →
-        ((policies_after verdicts now entry.line.task).epoch == now.epoch) ≡ true →
-        AdminRan (gate_basis verdicts) policies first old (entries ++ entry ∷ []) }
-    ensures switches { (verdicts : _) (policies : _) (first : _) (old : _) (before : _) (entries : _) (entry : Acted)
-        (slot : _) (enforce : _) (success : _) →
-        let now : Policies = policies_then verdicts policies (map task_in entries) in
-        AdminRan (gate_basis verdicts) policies first old entries → GoesOnFrom before old →
-        administrator_events before ≡ administrator_events old →
-        AnsweredBy verdicts now entry.line.task entry.reply →
-        ((policies_after verdicts now entry.line.task).epoch == now.epoch) ≡ false →
-        GateBegins (Switch slot enforce success) before (policies_after verdicts now entry.line.task) →
-        AdminRan (gate_basis verdicts) policies first (Switch slot enforce success ∷ before) (entries ++ entry ∷ []) }
-    ensures stores { (verdicts : _) (policies : _) (first : _) (old : _) (before : _) (entries : _) (slot : _)
-        (index : _) (word : _) → AdminRan (gate_basis verdicts) policies first old entries → GoesOnFrom before old →
-        administrator_events before ≡ administrator_events old →
-        AdminRan (gate_basis verdicts) policies first (Store slot index word ∷ before) entries }
+        (since : Since is_switch old new) →
+        AllZip (BeginsWith (gate_basis verdicts)) since.acts (raised verdicts now (entry.line.task ∷ [])) →
+        AdminRan (gate_basis verdicts) policies first new (entries ++ entry ∷ []) }
+    ensures meets { (verdicts : _) (policies : _) (first : _) (old : _) (new : _) (entries : _) →
+        AdminRan (gate_basis verdicts) policies first old entries → GoesOnFrom new old →
+        administrator_events new ≡ administrator_events old →
+        AdminRan (gate_basis verdicts) policies first new entries }
 {
     commands_stay_or_begin();
     images_are_read_as_themselves();
