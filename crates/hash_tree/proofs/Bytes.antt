@@ -1,5 +1,5 @@
 -- Bytes of levels.
-use Rattle.std.proofs.Common.{◌≡◌, ℕ, zero, suc, ◌+◌, ◌-◌, ◌*◌, ◌/◌, ◌<◌, ◌≤◌, min, List, [], ◌∷◌, ◌++◌, length, map, take, drop, replicate, ap, refl, sym, ◌∙◌, arith, inl, inr}
+use Rattle.std.proofs.Common.{◌≡◌, ℕ, zero, suc, ◌+◌, ◌-◌, ◌*◌, ◌/◌, ◌%◌, ◌<◌, ◌≤◌, min, List, [], ◌∷◌, ◌++◌, length, map, take, drop, replicate, ap, refl, sym, ◌∙◌, arith, inl, inr}
 use Rattle.std.specs.Int.{div_ceil}
 use Rattle.std.specs.List.{concat}
 use Rattle.std.specs.Prelude.{All}
@@ -14,7 +14,7 @@ use Rattle.hash_tree.specs.Chunks.{chunks}
 use Rattle.hash_tree.specs.Shape.{IsHashBlockSize}
 use Rattle.hash_tree.specs.Tree.{salted, filled, data_blocks, fan_out, hash_blocks, root, stored}
 use Rattle.hash_tree.proofs.Numbers.{div_ceil_is, div_ceil_less, div_ceil_some}
-use Rattle.hash_tree.proofs.Groups.{chunks_none, chunks_more, chunks_one, length-chunks, chunks-concat}
+use Rattle.hash_tree.proofs.Groups.{chunks_none, chunks_more, chunks_one, length-chunks, chunks-concat, whole_sizes}
 use Rattle.hash_tree.proofs.HashBlocks.{digests_whole, length-concat_same, length-hash_blocks, hash_blocks_sizes, concat-hash_blocks}
 use Rattle.hash_tree.proofs.Levels.{root_one, root_more, stored_one, stored_more}
 
@@ -52,6 +52,14 @@ pub whole_blocks : (size : ℕ) (bytes : List ℕ) → All (λ block. length blo
     data_blocks size bytes ≡ chunks size bytes
 unfolding data_blocks
 whole_blocks size bytes all = all_filled size (chunks size bytes) all
+
+-- where the last block is a full one, so are all
+pub full_blocks : (size : ℕ) (bytes : List ℕ) → 0 < size → length bytes % size ≡ 0 →
+    data_blocks size bytes ≡ chunks size bytes
+full_blocks size bytes positive full =
+    let split = div-add-mod' (length bytes) size in
+    let none : length bytes % size ≡ 0 = full in
+    whole_blocks size bytes (whole_sizes size (length bytes / size) bytes positive (omega (arith, split)))
 
 -- the blocks of bytes, one by one
 pub data_blocks_none : (size : ℕ) (bytes : List ℕ) → 0 < size → length bytes ≡ 0 → data_blocks size bytes ≡ []

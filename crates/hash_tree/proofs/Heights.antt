@@ -92,12 +92,12 @@ at_next h n k level above next wide some at more is =
     }
 
 -- 16,777,216 blocks have few levels
-pub few_levels : (h n k : ℕ) → 2 ≤ h → n ≤ 16777216 → 0 < (n - 1) / h ^ k → k < 24
-few_levels h n k many few some = elim (cases_lt k 24) [
+pub few_levels : (h n k : ℕ) → 4 ≤ h → n ≤ 16777216 → 0 < (n - 1) / h ^ k → k < 12
+few_levels h n k wide few some = elim (cases_lt k 12) [
   | inl below ↦ below
   | inr from ↦
-      let twos : 2 ^ 24 ≤ 2 ^ k = pow-le-pow_right (omega arith) from in
-      let powers : 2 ^ k ≤ h ^ k = pow-le-pow_left many k in
+      let fours : 4 ^ 12 ≤ 4 ^ k = pow-le-pow_right (omega arith) from in
+      let powers : 4 ^ k ≤ h ^ k = pow-le-pow_left wide k in
       let none : (n - 1) / h ^ k ≡ 0 = div-eq_of_lt (omega arith) in
       absurd (omega arith)
 ]
@@ -132,12 +132,12 @@ fewer_above h n wide some =
     let ceiling = div_ceil_is n (h ^ top) (power_some h top (omega arith)) some in
     omega (arith, at.bound, ceiling)
 
--- 16,777,216 blocks have at most 24 levels above them
-pub low_height : (h n : ℕ) → 2 ≤ h → 0 < n → n ≤ 16777216 → height h n ≤ 24
-low_height h n many some few = elim (cases_lt 24 (height h n)) [
+-- 16,777,216 blocks have at most 12 levels above them
+pub low_height : (h n : ℕ) → 4 ≤ h → 0 < n → n ≤ 16777216 → height h n ≤ 12
+low_height h n wide some few = elim (cases_lt 12 (height h n)) [
   | inl above ↦
-      let high : IsHeight h n (height h n) = height_least h n many some in
-      let low = few_levels h n 24 many few (high.least 24 above) in
+      let high : IsHeight h n (height h n) = height_least h n (omega arith) some in
+      let low = few_levels h n 12 wide few (high.least 12 above) in
       absurd (omega arith)
   | inr within ↦ within
 ]

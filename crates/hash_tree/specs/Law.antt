@@ -1,7 +1,8 @@
 -- The laws of hash trees.
-use Rattle.std.specs.Prelude.{◌≡◌, ℕ, suc, ◌-◌, ◌<◌, ◌≤◌, List, [], length, slice_index_or, All, None, ◌⊎◌}
+use Rattle.std.specs.Prelude.{◌≡◌, ℕ, suc, ◌-◌, ◌%◌, ◌<◌, ◌≤◌, List, [], length, slice_index_or, All, None, ◌⊎◌}
+use Rattle.hash_tree.specs.Chunks.{chunks}
 use Rattle.hash_tree.specs.Hash.{Hash}
-use Rattle.hash_tree.specs.Tree.{fan_out, levels, root}
+use Rattle.hash_tree.specs.Tree.{data_blocks, fan_out, levels, root}
 use Rattle.hash_tree.specs.Shape.{IsHeight, height, level_blocks}
 use Rattle.hash_tree.specs.Path.{path, first_failing, Shown}
 
@@ -41,6 +42,11 @@ abbrev pub BlocksHaveTheSize : Type 0
 BlocksHaveTheSize =
     (hash : Hash) (size : ℕ) (salt : List ℕ) (blocks : List (List ℕ)) → 2 ≤ fan_out hash size → All (λ block. length block ≡ size) blocks →
     All (All (λ block. length block ≡ size)) (levels hash size salt blocks)
+
+-- where the last block of bytes is a full one, no zeros are added
+abbrev pub FullBlocksStay : Type 0
+FullBlocksStay =
+    (size : ℕ) (bytes : List ℕ) → 0 < size → length bytes % size ≡ 0 → data_blocks size bytes ≡ chunks size bytes
 
 -- all the digests of the image's own path are the wanted ones
 abbrev pub TheImagesPathsAreRight : Type 0

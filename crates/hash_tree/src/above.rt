@@ -32,6 +32,7 @@ pub fn build(
     requires size { IsHashBlockSize (hash_of algorithm) block_size }
     ensures root { IfOk result (λ tree. tree.root.items
         ≡ root (hash_of algorithm) block_size salt.now (data_blocks block_size bytes.now)) }
+    ensures one_digest { IfOk result (λ tree. length tree.root.items ≡ (hash_of algorithm).size) }
     ensures stored { IfOk result (λ tree.
         tree.stored.items
         ≡ stored (hash_of algorithm) block_size salt.now (data_blocks block_size bytes.now)) }

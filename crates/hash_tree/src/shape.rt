@@ -23,7 +23,7 @@ pub fn layout(blocks: u64, block_size: u32, algorithm: HashAlgorithm) -> Shape
     ensures height { result.levels ≡ height (fan_out (hash_of algorithm) block_size) blocks }
     ensures count { result.hash_blocks ≡ tree_blocks (fan_out (hash_of algorithm) block_size) blocks }
     ensures fewer { result.hash_blocks < blocks }
-    ensures low { result.levels ≤ 24 }
+    ensures low { result.levels ≤ 12 }
 {
     let fan_out = algorithm.fan_out(block_size);
     let mut level = blocks;

@@ -22,7 +22,7 @@ overflow_add-levels c =
     let many : 4 ≤ c.fan_out-fan_out.result = omega (arith, c.fan_out-fan_out.ensures) in
     let some = not_yet c.fan_out-fan_out.result c.args.blocks c.loop-level.levels c.loop-level.level (omega arith)
     c.requires.some c.loop-level.invariant.level_is c.loop-level-test.true in
-    let few : c.loop-level.levels < 24 =
+    let few : c.loop-level.levels < 12 =
     few_levels c.fan_out-fan_out.result c.args.blocks c.loop-level.levels (omega arith) c.requires.few some in
     omega arith
 
