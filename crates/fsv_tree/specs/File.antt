@@ -1,5 +1,5 @@
 -- What a file's descriptor and its stored tree are.
-use Rattle.std.specs.Prelude.{◌≡◌, ◌≢◌, ◌⊎◌, ℕ, List, [], ◌∷◌, length, replicate}
+use Rattle.std.specs.Prelude.{◌≡◌, ◌≢◌, ◌<◌, ◌⊎◌, ℕ, List, [], ◌∷◌, length, replicate}
 use Rattle.sha2.specs.Sha256.{sha256}
 use Rattle.hash_tree.specs.Hash.{sha256_hash}
 use Rattle.hash_tree.specs.Tree.{data_blocks, root, stored}
@@ -35,6 +35,12 @@ abbrev pub DigestsTellDescriptors : Type 0
 DigestsTellDescriptors =
     (one other : DescriptorParts) → MayBeSaid one → MayBeSaid other → file_digest one ≡ file_digest other →
     (one ≡ other) ⊎ ((spelling one ≢ spelling other) × (sha256 (spelling one) ≡ sha256 (spelling other)))
+
+-- law: the root of a file that isn't empty is that of the hash tree over its blocks
+abbrev pub RootsAreOfTrees : Type 0
+RootsAreOfTrees =
+    (size : ℕ) (salt bytes : List ℕ) → 0 < length bytes →
+    file_root size salt bytes ≡ root sha256_hash size (block_salt salt) (data_blocks size bytes)
 
 -- what was measured of a file: its descriptor, and its stored tree
 pub record MeasuredParts : Type 0 where

@@ -11,7 +11,7 @@ mod rows;
 mod salt;
 
 pub use descriptor::{BadDescriptor, Descriptor};
-pub use law::digests_tell_descriptors;
+pub use law::{digests_tell_descriptors, roots_are_of_trees};
 pub use measure::{Measured, measure_bytes};
 pub use salt::BlockSalt;
 

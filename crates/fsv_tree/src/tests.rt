@@ -19,7 +19,7 @@ fn an_empty_file(rt: HostRuntime) -> Result<(), Fail> {
 
 // The digests of the other files come from Python's hashlib, over blocks that are cut and filled there.
 #[test]
-fn a_short_block_behind_a_salt(rt: HostRuntime) -> Result<(), Fail> {
+fn a_short_block_after_a_salt(rt: HostRuntime) -> Result<(), Fail> {
     let measured = measure_bytes(rt.alloc(), b"hello\n", 1024, &SALT)?;
     let digest = hex::encode(rt.alloc(), measured.descriptor().digest())?;
     assert_eq!(rt;
