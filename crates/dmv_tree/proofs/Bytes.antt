@@ -6,10 +6,9 @@ use Rattle.std.proofs.lemmas.Nat.{div-add-mod'}
 use Rattle.dmv_tree.specs.Blocks.{is_block_size, AreBlocks}
 use Rattle.hash_tree.specs.Chunks.{chunks}
 use Rattle.hash_tree.specs.Hash.{sha256_hash}
+use Rattle.hash_tree.specs.Law.{FullBlocksStay}
 use Rattle.hash_tree.specs.Shape.{IsHashBlockSize}
 use Rattle.hash_tree.specs.Tree.{data_blocks, fan_out}
-use Rattle.hash_tree.proofs.Groups.{whole_sizes}
-use Rattle.hash_tree.proofs.Bytes.{whole_blocks}
 
 -- the sizes of blocks, as numbers
 pub size_cases : (size : ℕ) (P : ℕ → Type 0) → P 512 → P 1024 → P 2048 → P 4096 → IsTrue (is_block_size size) → P size
@@ -61,10 +60,8 @@ hash_size size is = record {
 }
 
 -- the blocks of an image are full
-pub image_blocks : (size : ℕ) (image : List ℕ) → AreBlocks (length image) size →
+pub image_blocks : FullBlocksStay → (size : ℕ) (image : List ℕ) → AreBlocks (length image) size →
     data_blocks size image ≡ chunks size image
-image_blocks size image blocks =
-    let split = div-add-mod' (length image) size in
-    let none : length image % size ≡ 0 = blocks.whole in
+image_blocks full size image blocks =
     let least = size_cases size (λ x. 1 ≤ x) (omega arith) (omega arith) (omega arith) (omega arith) blocks.block_size in
-    whole_blocks size image (whole_sizes size (length image / size) image (omega (arith, least)) (omega (arith, split)))
+    full size image (omega (arith, least)) blocks.whole

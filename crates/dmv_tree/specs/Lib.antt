@@ -1,3 +1,4 @@
 pub mod Blocks
 pub mod Tree
 pub mod Words
+pub mod Law

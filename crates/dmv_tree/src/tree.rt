@@ -4,7 +4,7 @@ ghost use Rattle.hash_tree.specs.Hash.{sha256_hash};
 ghost use Rattle.hash_tree.specs.Tree.{root, stored};
 ghost use Rattle.std.specs.Prelude.{◌≡◌, ◌≤◌, length, IfOk};
 
-use hash_tree::{HashAlgorithm, array_of};
+use hash_tree::{HashAlgorithm, array_of, trees_have_their_shape};
 use std::alloc::{AllocError, Global};
 use std::marker::Model;
 
@@ -50,6 +50,7 @@ pub fn build(alloc: Global, image: &[u8], block_size: u32, salt: &[u8]) -> Resul
       bytes = stored sha256_hash block_size salt.now (chunks block_size image.now);
     }) }
 {
+    trees_have_their_shape();
     let hash_tree::Tree { root, stored } = hash_tree::build(
         alloc,
         image,
