@@ -1,12 +1,11 @@
 -- What words say.
 use Rattle.std.proofs.Common.{◌≡◌, ℕ, ◌*◌, ◌<◌, ◌≤◌, ◌^◌, ◌⊎◌, List, [], length, None, Some, Result, Ok, Err, ap, refl, sym, ◌∙◌, arith, inl, inr}
-use Rattle.std.specs.Prelude.{IsTrue, IfSome, MatchResult, codes}
+use Rattle.std.specs.Prelude.{MatchResult, codes}
 use Rattle.std.specs.Result.{result_ok}
-use Rattle.dmv_tree.specs.Blocks.{is_block_size}
 use Rattle.dmv_tree.specs.Words.{block_size_of, salt_of}
-use Rattle.dmv_tree.proofs.Bytes.{size_cases}
+use Rattle.dmv_tree.specs.Law.{TextsOfSizesSayThem}
 use Rattle.std.proofs.lemmas.Slice.Eq.{bytes_eq-Decides}
-use Rattle.std.specs.Fmt.{decimal, digits}
+use Rattle.std.specs.Fmt.{decimal}
 use Rattle.std.proofs.lemmas.Fmt.{decimal_injective}
 use Rattle.hex.specs.declared.error.FromHexError.{FromHexError}
 use Rattle.hex.specs.Hex.{decode_of, decode_sized}
@@ -46,19 +45,9 @@ pub not_written : (d : Result (List ℕ) FromHexError) (r : Result (Unit {0}) Fr
 not_written (Ok bytes) r out is none = let some : result_ok r ≡ Some tt = ap result_ok is.0 in cc
 not_written (Err e) r out is none = (e, refl)
 
--- a word that says a size of blocks is the text of that number
-pub size_some : (word : List ℕ) → IfSome (block_size_of word) (λ n. word ≡ decimal n)
-unfolding digits
-size_some word = grind (arith, bytes_eq-Decides)
-
--- the text of a size of blocks says that size
-size_said : (n : ℕ) → IsTrue (is_block_size n) → block_size_of (decimal n) ≡ Some n
-unfolding digits
-size_said n is = size_cases n (λ (x : ℕ). block_size_of (decimal x) ≡ Some x) refl refl refl refl is
-
--- so a word that says none is the text of no size
-pub size_none : (word : List ℕ) → block_size_of word ≡ None → Meets [] word BlockSize → ⊥
-size_none word none (n, is, spelled) = let said = size_said n is in cc
+-- a word that says no size of blocks is the text of none
+pub size_none : TextsOfSizesSayThem → (word : List ℕ) → block_size_of word ≡ None → Meets [] word BlockSize → ⊥
+size_none text_says word none (n, is, spelled) = let said = text_says n is in cc
 
 -- a word that says a salt is a dash, or short enough and decoded
 dash_or_decoded : (word salt : List ℕ) → salt_of 512 word ≡ Some salt →

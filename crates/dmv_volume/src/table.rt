@@ -11,7 +11,7 @@ ghost use Rattle.std.specs.Fmt.{decimal};
 ghost use Rattle.std.specs.Prelude.{◌≡◌, ◌<◌, ◌≤◌, ◌==◌, ℕ, IsTrue, IfErr, IfOk, Some, length};
 
 use crate::words::{is_name, number_of, root_of, word_at};
-use dmv_tree::{Salt, block_size_of, layout};
+use dmv_tree::{Salt, block_size_of, block_sizes_are_spelled, layout};
 use line_words::words_of;
 use std::alloc::{AllocError, Global};
 use std::marker::Model;
@@ -250,6 +250,7 @@ impl Sizes {
         ensures start { IfOk result (λ sizes. sizes.hash_start ≤ 1048576) }
         ensures bad { IfErr result (IsReason (seen words.now)) }
     {
+        block_sizes_are_spelled();
         let block_size = block_size_of(word_at(words, 4)).ok_or(TableError::Bad { word: 4 })?;
         if word_at(words, 5) != word_at(words, 4) {
             return Err(TableError::Bad { word: 5 });

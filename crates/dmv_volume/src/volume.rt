@@ -1,5 +1,5 @@
 ghost use Rattle.blk_device.specs.Contents.{HasAtLeast, HasNone, OnDevice};
-ghost use Rattle.dmv_volume.specs.Reading.{data_need, hash_need, tree_of};
+ghost use Rattle.dmv_volume.specs.Reading.{data_need, hash_need, tree_of_volume};
 ghost use Rattle.dmv_volume.specs.Table.{HasLimits};
 ghost use Rattle.ipe_words.specs.Count.{Rose};
 ghost use Rattle.std.specs.Fork.{slice_chunk};
@@ -10,6 +10,7 @@ ghost use Rattle.stored_tree.specs.Stored.{HoldsTreeOf, OfBoth, TakenFrom, held_
 
 use crate::{BlockPath, Table};
 use blk_device::{Devices, VerityError};
+use dmv_tree::block_sizes_are_spelled;
 use hash_tree::HashAlgorithm;
 use std::alloc::{AllocError, Global};
 use std::marker::Model;
@@ -23,24 +24,24 @@ pub struct Volume {
 }
 
 impl Model for Volume {
-    ghost use Rattle.dmv_volume.specs.Reading.{Attached, IsAttached};
+    ghost use Rattle.dmv_volume.specs.Reading.{VolumeParts};
+    ghost use Rattle.dmv_volume.specs.Table.{HasLimits};
 
-    ghost Value = { Attached };
+    ghost Value = { VolumeParts };
 
-    ghost view = { λ s. record { table = s.table; path = s.reader.items } };
+    ghost view = { λ s. record { table = s.table; path = s.reader } };
 
-    ghost invariant = { λ s. IsAttached s.table s.reader };
+    ghost invariant = { λ s. HasLimits s.table };
 }
 
 impl Volume {
-    /// The volume of a table, with room for one path. It asks no device.
+    /// The volume of a table. It asks no device, and no read of it takes memory.
     pub fn attach(alloc: Global, table: &Table) -> Result<Volume, AllocError>
         ensures table { IfOk result (λ volume. volume.table ≡ table.now) }
         ensures limits { IfOk result (λ volume. HasLimits volume.table) }
         ensures path { IfOk result (λ volume. volume.path ≡ []) }
     {
-        let blocks = table.blocks();
-        let reader = PathReader::new(alloc, table.block_size(), blocks, HashAlgorithm::Sha256)?;
+        let reader = PathReader::new(alloc)?;
         let table = table.copy(alloc)?;
         Ok(Volume { table, reader })
     }
@@ -62,36 +63,36 @@ impl Volume {
         requires has_hashes { HasAtLeast (D.contents dev.old) self.old.table.hash_device (hash_need self.old.table) }
 
         // No block of the path fails, and the last is in `out`: that of each image with the declared root.
-        ensures ok { OnOk result (IsChecked (tree_of self.old.table) i self.new.path out.new) }
-        ensures image { OnOk result (IsOfImage (tree_of self.old.table) i self.new.path out.new) }
+        ensures ok { OnOk result (IsChecked (tree_of_volume self.old.table) i self.new.path out.new) }
+        ensures image { OnOk result (IsOfImage (tree_of_volume self.old.table) i self.new.path out.new) }
 
         // The last block of the path that was read is the first that fails.
         ensures corrupt { (level b : ℕ) → IsErrOf result (VerityError.Corrupt level b) →
-            FailsAt (tree_of self.old.table) i self.new.path level b }
+            FailsAt (tree_of_volume self.old.table) i self.new.path level b }
 
-        // A device answered so; no block that was taken before fails. Of one block the hash device isn't asked.
+        // A device answered so; no block that was taken before fails. Of one block it is that of the data.
         ensures missing { IsErrOf result VerityError.Missing → HasNone (D.contents dev.old) self.old.table.device
-            ⊎ ((0 < levels_of (tree_of self.old.table)) × HasNone (D.contents dev.old) self.old.table.hash_device) }
+            ⊎ ((0 < levels_of (tree_of_volume self.old.table)) × HasNone (D.contents dev.old) self.old.table.hash_device) }
         ensures failed { IsErrOf result VerityError.DeviceFault → Rose (D.faults dev.old) (D.faults dev.new) }
         ensures right { IsErrOf result VerityError.DeviceFault ⊎ IsErrOf result VerityError.Missing →
-            IsRightSoFar (tree_of self.old.table) i self.new.path }
+            IsRightSoFar (tree_of_volume self.old.table) i self.new.path }
 
         // What was taken is what the devices hold, each of which is there if a block of it was taken.
-        ensures hashes { TakenFrom (D.contents dev.old) (tree_of self.old.table) i
-            (take (levels_of (tree_of self.old.table)) self.new.path) }
-        ensures data { levels_of (tree_of self.old.table) < length self.new.path →
+        ensures hashes { TakenFrom (D.contents dev.old) (tree_of_volume self.old.table) i
+            (take (levels_of (tree_of_volume self.old.table)) self.new.path) }
+        ensures data { levels_of (tree_of_volume self.old.table) < length self.new.path →
             OnDevice (D.contents dev.old) self.old.table.device (λ bytes.
-            slice_index_or self.new.path (levels_of (tree_of self.old.table)) []
+            slice_index_or self.new.path (levels_of (tree_of_volume self.old.table)) []
             ≡ slice_chunk bytes self.old.table.block_size i) }
 
         // Unless a device failed, the answer is what the path that they hold says.
-        ensures answer { OfBoth (D.contents dev.old) self.old.table.device (tree_of self.old.table) (λ bytes hashes.
+        ensures answer { OfBoth (D.contents dev.old) self.old.table.device (tree_of_volume self.old.table) (λ bytes hashes.
             (IsErrOf result VerityError.DeviceFault → ⊥) →
-            result ≡ answer_of (failing (tree_of self.old.table) i (held_path (tree_of self.old.table) bytes hashes i))) }
+            result ≡ answer_of (failing (tree_of_volume self.old.table) i (held_path (tree_of_volume self.old.table) bytes hashes i))) }
 
         // Where the devices hold an image and its tree under the root, only a device's failure is an error.
-        ensures complete { OfBoth (D.contents dev.old) self.old.table.device (tree_of self.old.table) (λ bytes hashes.
-            (image : List (List ℕ)) → HoldsTreeOf (tree_of self.old.table) hashes image →
+        ensures complete { OfBoth (D.contents dev.old) self.old.table.device (tree_of_volume self.old.table) (λ bytes hashes.
+            (image : List (List ℕ)) → HoldsTreeOf (tree_of_volume self.old.table) hashes image →
             slice_chunk bytes self.old.table.block_size i ≡ slice_index_or image i [] →
             (IsErrOf result VerityError.DeviceFault → ⊥) → result ≡ Ok tt) }
         ensures cleared { OnErr result (out.new ≡ replicate (length out.old) 0) }
@@ -99,6 +100,7 @@ impl Volume {
         ensures never_falls { D.faults dev.old ≤ D.faults dev.new }
         ensures kept { self.new ≡ record self.old { path = self.new.path } }
     {
+        block_sizes_are_spelled();
         let tree = stored_tree(&self.table);
         let read = self
             .reader
@@ -111,7 +113,7 @@ impl Volume {
 
     /// The path of the last call, as far as it was read.
     pub fn path(&self) -> &BlockPath
-        ensures { result.now.items ≡ self.now.path }
+        ensures { result.now ≡ self.now.path }
     {
         self.reader.path()
     }
@@ -119,7 +121,7 @@ impl Volume {
 
 // The tree that a table says.
 fn stored_tree<'a>(table: &'a Table) -> StoredTree<'a>
-    ensures { result ≡ tree_of table.now }
+    ensures { result ≡ tree_of_volume table.now }
 {
     StoredTree {
         device: table.hash_device(),

@@ -1,5 +1,5 @@
 ghost use Rattle.blk_device.specs.Contents.{HasNone};
-ghost use Rattle.fsv_file.specs.File.{IsOfFile, blocks_of, block_size_of, held_path, tree_of};
+ghost use Rattle.fsv_file.specs.File.{IsOfFile, blocks_of, file_block_size, path_to, tree_of_file};
 ghost use Rattle.stored_tree.specs.Checked.{FailsAt, IsChecked, IsRightSoFar, answer_of, failing};
 ghost use Rattle.stored_tree.specs.Stored.{HasTree, HoldsTreeOf, OfHashes, TakenFrom, end_of, levels_of};
 ghost use Rattle.hash_tree.specs.Tree.{data_blocks};
@@ -7,7 +7,7 @@ ghost use Rattle.ipe_words.specs.Count.{Rose};
 ghost use Rattle.std.specs.Prelude.{◌≡◌, ◌<◌, ◌≤◌, ◌⊎◌, ℕ, List, Ok, [], length, slice_index_or, take, IfOk, IsErrOf, OnOk};
 
 use blk_device::{Devices, VerityError};
-use fsv_tree::{BlockSalt, Descriptor};
+use fsv_tree::{BlockSalt, Descriptor, roots_are_of_trees};
 use hash_tree::HashAlgorithm;
 use std::alloc::{AllocError, Global};
 use std::marker::Model;
@@ -24,28 +24,24 @@ pub struct FsvFile {
 }
 
 impl Model for FsvFile {
-    ghost use Rattle.fsv_file.specs.File.{Attached, IsAttached};
+    ghost use Rattle.fsv_file.specs.File.{FileParts};
+    ghost use Rattle.std.specs.Prelude.{◌≤◌};
 
-    ghost Value = { Attached };
+    ghost Value = { FileParts };
 
     ghost view = { λ s. record {
       descriptor = s.descriptor;
       device = s.device.items;
       tree_at = s.tree_at;
-      path = s.reader.items;
+      path = s.reader;
     } };
 
-    ghost invariant = { λ s. IsAttached (record {
-      descriptor = s.descriptor;
-      device = s.device.items;
-      tree_at = s.tree_at;
-      path = s.reader.items;
-    }) s.reader };
+    ghost invariant = { λ s. s.tree_at ≤ 16777216 };
 }
 
 impl FsvFile {
-    /// The file of a descriptor, whose stored tree begins at byte `tree_at` of a device, at most 16,777,216. It has
-    /// room for one path, and asks no device.
+    /// The file of a descriptor, whose stored tree begins at byte `tree_at` of a device, at most 16,777,216. It asks no
+    /// device, and no check of a block takes memory.
     pub fn attach(
         alloc: Global,
         descriptor: &Descriptor,
@@ -58,13 +54,7 @@ impl FsvFile {
         ensures tree_at { IfOk result (λ file. file.tree_at ≡ tree_at) }
         ensures path { IfOk result (λ file. file.path ≡ []) }
     {
-        let blocks = descriptor.blocks();
-        let reader = PathReader::new(
-            alloc,
-            descriptor.block_size(),
-            blocks,
-            HashAlgorithm::Sha256,
-        )?;
+        let reader = PathReader::new(alloc)?;
         let device = device.to_vec(alloc)?;
         Ok(FsvFile {
             descriptor: descriptor.copy(),
@@ -76,7 +66,7 @@ impl FsvFile {
 
     /// How many bytes the device has to have at least: its stored tree ends there.
     pub fn tree_end(&self) -> u64
-        ensures { result ≡ end_of (tree_of self.now) }
+        ensures { result ≡ end_of (tree_of_file self.now) }
     {
         self.tree_at + self.descriptor.tree_blocks() * u64::from(self.descriptor.block_size())
     }
@@ -93,42 +83,46 @@ impl FsvFile {
         i: u64,
     ) -> Result<(), VerityError>
         requires block { i < blocks_of self.old.descriptor }
-        requires one_block { length block.now ≡ block_size_of self.old.descriptor }
-        requires has_tree { HasTree (D.contents dev.old) (tree_of self.old) }
+        requires one_block { length block.now ≡ file_block_size self.old.descriptor }
+        requires has_tree { HasTree (D.contents dev.old) (tree_of_file self.old) }
 
         // No block of the path fails, and the last is the one that was handed in: that of each file with the root.
-        ensures ok { OnOk result (IsChecked (tree_of self.old) i self.new.path block.now) }
+        ensures ok { OnOk result (IsChecked (tree_of_file self.old) i self.new.path block.now) }
         ensures file { OnOk result (IsOfFile self.old i self.new.path block.now) }
 
         // The last block of the path that was taken is the first that fails.
         ensures corrupt { (level b : ℕ) → IsErrOf result (VerityError.Corrupt level b) →
-            FailsAt (tree_of self.old) i self.new.path level b }
+            FailsAt (tree_of_file self.old) i self.new.path level b }
 
         // The device answered so; no block that was taken before fails.
         ensures missing { IsErrOf result VerityError.Missing →
-            (0 < levels_of (tree_of self.old)) × HasNone (D.contents dev.old) self.old.device }
+            (0 < levels_of (tree_of_file self.old)) × HasNone (D.contents dev.old) self.old.device }
         ensures failed { IsErrOf result VerityError.DeviceFault → Rose (D.faults dev.old) (D.faults dev.new) }
         ensures right { IsErrOf result VerityError.DeviceFault ⊎ IsErrOf result VerityError.Missing →
-            IsRightSoFar (tree_of self.old) i self.new.path }
+            IsRightSoFar (tree_of_file self.old) i self.new.path }
 
         // The hash blocks that were taken are what the device holds, which is there if any was; and unless it failed the
         // answer is what the held hash blocks and the block say.
-        ensures hashes { TakenFrom (D.contents dev.old) (tree_of self.old) i
-            (take (levels_of (tree_of self.old)) self.new.path) }
-        ensures answer { OfHashes (D.contents dev.old) (tree_of self.old) (λ bytes.
+        ensures hashes { TakenFrom (D.contents dev.old) (tree_of_file self.old) i
+            (take (levels_of (tree_of_file self.old)) self.new.path) }
+        ensures answer { OfHashes (D.contents dev.old) (tree_of_file self.old) (λ bytes.
             (IsErrOf result VerityError.DeviceFault → ⊥) →
-            result ≡ answer_of (failing (tree_of self.old) i (held_path self.old bytes i block.now))) }
+            result ≡ answer_of (failing (tree_of_file self.old) i (path_to self.old bytes i block.now))) }
 
         // Where the device holds the tree of a file with the root, only a device's failure is an error for its blocks.
-        ensures complete { OfHashes (D.contents dev.old) (tree_of self.old) (λ bytes. (all : List ℕ) →
+        ensures complete { OfHashes (D.contents dev.old) (tree_of_file self.old) (λ bytes. (all : List ℕ) →
             length all ≡ self.old.descriptor.size →
-            HoldsTreeOf (tree_of self.old) bytes (data_blocks (block_size_of self.old.descriptor) all) →
-            block.now ≡ slice_index_or (data_blocks (block_size_of self.old.descriptor) all) i [] →
+            HoldsTreeOf (tree_of_file self.old) bytes (data_blocks (file_block_size self.old.descriptor) all) →
+            block.now ≡ slice_index_or (data_blocks (file_block_size self.old.descriptor) all) i [] →
             (IsErrOf result VerityError.DeviceFault → ⊥) → result ≡ Ok tt) }
+
+        // Where no level stands above the data, the device isn't asked.
+        ensures unasked { levels_of (tree_of_file self.old) ≡ 0 → dev.new ≡ dev.old }
         ensures same { D.contents dev.new ≡ D.contents dev.old }
         ensures never_falls { D.faults dev.old ≤ D.faults dev.new }
         ensures kept { self.new ≡ record self.old { path = self.new.path } }
     {
+        roots_are_of_trees();
         let root = self.descriptor.root();
         let salt = BlockSalt::new(self.descriptor.salt());
         let tree = StoredTree {
@@ -145,7 +139,7 @@ impl FsvFile {
 
     /// The path of the last call, as far as it was read.
     pub fn path(&self) -> &BlockPath
-        ensures { result.now.items ≡ self.now.path }
+        ensures { result.now ≡ self.now.path }
     {
         self.reader.path()
     }

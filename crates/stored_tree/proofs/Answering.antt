@@ -10,8 +10,7 @@ use Rattle.hash_tree.specs.Path.{first_failing, path, path_below}
 use Rattle.hash_tree.specs.Hash.{Hash, hash_of}
 use Rattle.hash_tree.specs.Shape.{height}
 use Rattle.hash_tree.specs.Tree.{fan_out, levels, root}
-use Rattle.hash_tree.proofs.Paths.{checked}
-use Rattle.hash_tree.proofs.Shapes.{levels_count}
+use Rattle.hash_tree.specs.Law.{CheckedPathsLeadToTheImage, LevelsAreTheHeight}
 use Rattle.stored_tree.specs.Checked.{CheckedBlocksAreOfTheImage, FailsAt, IsChecked, answer_of, failing}
 use Rattle.stored_tree.specs.Stored.{OfBytes, Stored, held_blocks, levels_of}
 use Rattle.stored_tree.proofs.Walking.{length-held_from}
@@ -28,8 +27,8 @@ length-path hash size salt image i =
     length-path_below (fan_out hash size) (levels hash size salt image) i (length (levels hash size salt image))
 
 -- a checked path ends with the block of each image that has the root, or shows two blocks that collide
-pub of_image : CheckedBlocksAreOfTheImage
-of_image tree i taken block is inside right image count declared =
+pub of_image : CheckedPathsLeadToTheImage → LevelsAreTheHeight → CheckedBlocksAreOfTheImage
+of_image checked levels_count tree i taken block is inside right image count declared =
     let size = tree.block_size in
     let salt = tree.salt in
     let many : 2 ≤ fan_out (hash_of tree.algorithm) size = omega (arith, is.size.wide) in

@@ -6,13 +6,13 @@ use Rattle.std.specs.Prelude.{All}
 use Rattle.std.proofs.lemmas.List.{append_assoc, drop-drop, drop_at, take-append-drop}
 use Rattle.std.proofs.lemmas.List.Elements.{All-get_or}
 use Rattle.hash_tree.specs.Hash.{hash_of}
+use Rattle.hash_tree.specs.Law.{BlocksHaveTheSize, LevelsAreTheHeight, LevelsHaveTheirBlocks, TheImagesPathsAreRight}
 use Rattle.hash_tree.specs.Path.{first_failing, path, path_below}
 use Rattle.hash_tree.specs.Shape.{height, level_blocks}
 use Rattle.hash_tree.specs.Tree.{fan_out, levels, stored}
 use Rattle.hash_tree.proofs.HashBlocks.{length-concat_same, part_of_joined}
 use Rattle.hash_tree.proofs.Numbers.{div_below_ceil, power_some}
-use Rattle.hash_tree.proofs.Paths.{bottom, own}
-use Rattle.hash_tree.proofs.Shapes.{levels_count, levels_lengths, levels_sizes}
+use Rattle.hash_tree.proofs.Paths.{bottom}
 use Rattle.hash_tree.proofs.StoredTrees.{bytes_down, stored_down}
 use Rattle.stored_tree.specs.Checked.{HeldTreesAreRight, failing}
 use Rattle.stored_tree.specs.Stored.{fan_of, HoldsTreeOf, IsStored, Stored, held_block, held_blocks, held_from, levels_of}
@@ -48,17 +48,24 @@ record IsImage (tree : Stored) (image : List (List ℕ)) : Type 0 where
   count : length image ≡ tree.blocks
   sizes : All (λ block. length block ≡ tree.block_size) image
 
+-- the laws of hash trees that this rests on
+pub record Laws : Type 0 where
+  pub heights : LevelsAreTheHeight
+  pub lengths : LevelsHaveTheirBlocks
+  pub sizes : BlocksHaveTheSize
+  pub own : TheImagesPathsAreRight
+
 -- from level k down
-held_below : (k : ℕ) (tree : Stored) (bytes rest : List ℕ) (image : List (List ℕ)) (i first : ℕ) →
+held_below : Laws → (k : ℕ) (tree : Stored) (bytes rest : List ℕ) (image : List (List ℕ)) (i first : ℕ) →
     IsImage tree image → i < tree.blocks → k < length (levels (hash_of tree.algorithm) tree.block_size tree.salt image) →
     drop (first * tree.block_size) (drop tree.start bytes)
     ≡ bytes_down (levels (hash_of tree.algorithm) tree.block_size tree.salt image) k ++ rest →
     held_from tree bytes i first k ++ get_or image i [] ∷ []
     ≡ path_below (fan_of tree) (levels (hash_of tree.algorithm) tree.block_size tree.salt image) i (suc k)
 unfolding held_from path_below bytes_down
-held_below zero tree bytes rest image i first is inside within goes_on =
+held_below laws zero tree bytes rest image i first is inside within goes_on =
     ap (λ xs. xs ∷ []) (sym (bottom (hash_of tree.algorithm) tree.block_size tree.salt image i))
-held_below (suc k) tree bytes rest image i first is inside within goes_on =
+held_below laws (suc k) tree bytes rest image i first is inside within goes_on =
     let h = fan_of tree in
     let n = tree.blocks in
     let size = tree.block_size in
@@ -67,10 +74,10 @@ held_below (suc k) tree bytes rest image i first is inside within goes_on =
     let image_count : length image ≡ n = is.count in
     let many : 2 ≤ h = is.many in
     let sizes : All (λ block. length block ≡ size) level =
-    All-get_or (All (λ block. length block ≡ size)) all (suc k) [] within (levels_sizes (hash_of tree.algorithm) size tree.salt image is.many
+    All-get_or (All (λ block. length block ≡ size)) all (suc k) [] within (laws.sizes (hash_of tree.algorithm) size tree.salt image is.many
     is.sizes) in
     let count : length level ≡ level_blocks h n (suc k) =
-    levels_lengths (hash_of tree.algorithm) size tree.salt image (suc k) many (omega arith) within
+    laws.lengths (hash_of tree.algorithm) size tree.salt image (suc k) many (omega arith) within
     ∙ ap (λ (x : ℕ). level_blocks h x (suc k)) image_count in
     let low : i / h ^ suc k < length level =
     omega (arith, count, div_below_ceil i n (h ^ suc k) (power_some h (suc k) (omega arith)) inside) in
@@ -82,14 +89,14 @@ held_below (suc k) tree bytes rest image i first is inside within goes_on =
     ∙ level_held size first level (bytes_down all k) rest (drop tree.start bytes) sizes goes_on in
     ap (λ block. block ∷ (held_from tree bytes i next k ++ get_or image i [] ∷ [])) here
     ∙ ap (λ xs. get_or level (i / h ^ suc k) [] ∷ xs)
-    (held_below k tree bytes rest image i next is inside (omega arith) lower)
+    (held_below laws k tree bytes rest image i next is inside (omega arith) lower)
 
 -- what the device holds over a block of the image, and that block, are the image's path
-held_path : (tree : Stored) (bytes : List ℕ) (image : List (List ℕ)) (i : ℕ) → IsStored tree →
+held_path : Laws → (tree : Stored) (bytes : List ℕ) (image : List (List ℕ)) (i : ℕ) → IsStored tree →
     HoldsTreeOf tree bytes image → i < tree.blocks →
     held_blocks tree bytes i ++ get_or image i [] ∷ [] ≡ path (hash_of tree.algorithm) tree.block_size tree.salt image i
 unfolding path
-held_path tree bytes image i is holds inside =
+held_path laws tree bytes image i is holds inside =
     let size = tree.block_size in
     let h = fan_out (hash_of tree.algorithm) size in
     let all = levels (hash_of tree.algorithm) size tree.salt image in
@@ -97,7 +104,7 @@ held_path tree bytes image i is holds inside =
     let here = drop tree.start bytes in
     let tree_bytes = stored (hash_of tree.algorithm) size tree.salt image in
     let rest = drop (length tree_bytes) here in
-    let count : length all ≡ suc (levels_of tree) = levels_count (hash_of tree.algorithm) size tree.salt image (omega arith) (omega (arith, holds.count, is.some))
+    let count : length all ≡ suc (levels_of tree) = laws.heights (hash_of tree.algorithm) size tree.salt image (omega arith) (omega (arith, holds.count, is.some))
     ∙ ap (λ (n : ℕ). suc (height h n)) holds.count in
     let top : length all - 1 ≡ levels_of tree = omega arith in
     let front : 0 * size ≡ 0 = omega arith in
@@ -106,19 +113,19 @@ held_path tree bytes image i is holds inside =
     ∙ (sym (take-append-drop (length tree_bytes) here)
     ∙ ap (λ xs. xs ++ rest)
     (holds.stored ∙ (stored_down (hash_of tree.algorithm) size tree.salt image ∙ ap (λ (x : ℕ). bytes_down all x) top))) in
-    held_below (levels_of tree) tree bytes rest image i 0
+    held_below laws (levels_of tree) tree bytes rest image i 0
     (record { many = omega arith; count = holds.count; sizes = holds.sizes }) inside (omega arith) goes_on
     ∙ ap (λ (x : ℕ). path_below h all i x) (sym count)
 
 -- and nothing on it fails
-pub held_right : HeldTreesAreRight
-held_right tree bytes image i is holds inside =
+pub held_right : Laws → HeldTreesAreRight
+held_right laws tree bytes image i is holds inside =
     let h = fan_of tree in
     let wide : 4 ≤ h = is.size.wide in
     let count : length image ≡ tree.blocks = holds.count in
-    let same = held_path tree bytes image i is holds inside in (
+    let same = held_path laws tree bytes image i is holds inside in (
       same,
       ap (λ xs. failing tree i xs) same
           ∙ (ap (λ xs. first_failing (hash_of tree.algorithm) h tree.salt xs i (path (hash_of tree.algorithm) tree.block_size tree.salt image i)) (sym holds.root)
-          ∙ own (hash_of tree.algorithm) tree.block_size tree.salt image i (omega arith) (omega arith)),
+          ∙ laws.own (hash_of tree.algorithm) tree.block_size tree.salt image i (omega arith) (omega arith)),
     )

@@ -9,10 +9,9 @@ use Rattle.std.proofs.Math.Seq.{get_or-append_seam}
 use Rattle.blk_device.specs.Contents.{Contents, HasNone, OnDevice, content}
 use Rattle.blk_device.specs.declared.devices.VerityError.{VerityError}
 use Rattle.blk_device.specs.declared.devices.VerityError.TheVariants.{DeviceFault, Missing}
-use Rattle.stored_tree.specs.Checked.{answer_of, failing}
+use Rattle.stored_tree.specs.Checked.{HeldTreesAreRight, answer_of, failing}
 use Rattle.stored_tree.specs.Stored.{HoldsTreeOf, IsStored, OfBoth, OfBytes, OfHashes, Stored, TakenFrom, held_blocks, held_path, levels_of}
 use Rattle.stored_tree.proofs.Answering.{Answers, by_held, front_whole, length-held}
-use Rattle.stored_tree.proofs.HeldTrees.{held_right}
 use Rattle.stored_tree.proofs.Walking.{length-held_from}
 
 -- no blocks are the front of each path
@@ -150,13 +149,13 @@ check_answer (Some items) tree i path block result answers missing front = λ ha
     (length-held tree hashes i block) (front hashes known)
 
 pub check_complete : (told : Option Contents) (tree : Stored) (i : ℕ) (block : List ℕ)
-    (result : Result (Unit {0}) VerityError) → IsStored tree → i < tree.blocks →
+    (result : Result (Unit {0}) VerityError) → HeldTreesAreRight → IsStored tree → i < tree.blocks →
     OfHashes told tree (λ hashes. (IsErrOf result DeviceFault → ⊥) →
     result ≡ answer_of (failing tree i (held_blocks tree hashes i ++ block ∷ []))) →
     OfHashes told tree (λ hashes. (image : List (List ℕ)) → HoldsTreeOf tree hashes image →
     block ≡ get_or image i [] → (IsErrOf result DeviceFault → ⊥) → result ≡ Ok tt)
-check_complete None tree i block result is inside answer = tt
-check_complete (Some items) tree i block result is inside answer = λ hashes known image holds same sound.
+check_complete None tree i block result held_right is inside answer = tt
+check_complete (Some items) tree i block result held_right is inside answer = λ hashes known image holds same sound.
     let right = held_right tree hashes image i is holds inside in
     answer hashes known sound
     ∙ (ap (λ x. answer_of (failing tree i (held_blocks tree hashes i ++ x ∷ []))) same ∙ ap answer_of right.1)
@@ -178,13 +177,13 @@ read_answer (Some items) disk tree i path block result answers missing front = �
     (length-held tree hashes i (slice_chunk bytes tree.block_size i)) (front bytes hashes there known)
 
 pub read_complete : (told : Option Contents) (disk : List ℕ) (tree : Stored) (i : ℕ)
-    (result : Result (Unit {0}) VerityError) → IsStored tree → i < tree.blocks →
+    (result : Result (Unit {0}) VerityError) → HeldTreesAreRight → IsStored tree → i < tree.blocks →
     OfBoth told disk tree (λ bytes hashes. (IsErrOf result DeviceFault → ⊥) →
     result ≡ answer_of (failing tree i (held_path tree bytes hashes i))) →
     OfBoth told disk tree (λ bytes hashes. (image : List (List ℕ)) → HoldsTreeOf tree hashes image →
     slice_chunk bytes tree.block_size i ≡ get_or image i [] → (IsErrOf result DeviceFault → ⊥) → result ≡ Ok tt)
-read_complete None disk tree i result is inside answer = tt
-read_complete (Some items) disk tree i result is inside answer = λ bytes hashes there known image holds same sound.
+read_complete None disk tree i result held_right is inside answer = tt
+read_complete (Some items) disk tree i result held_right is inside answer = λ bytes hashes there known image holds same sound.
     let right = held_right tree hashes image i is holds inside in
     answer bytes hashes there known sound
     ∙ (ap (λ x. answer_of (failing tree i (held_blocks tree hashes i ++ x ∷ []))) same ∙ ap answer_of right.1)

@@ -1,23 +1,19 @@
 ghost use Rattle.blk_device.specs.Contents.{HasAtLeast, HasNone, OnDevice};
-ghost use Rattle.hash_tree.specs.Hash.{hash_of};
-ghost use Rattle.hash_tree.specs.Shape.{IsHashBlockSize, height};
-ghost use Rattle.hash_tree.specs.Tree.{fan_out};
 ghost use Rattle.ipe_words.specs.Count.{Rose};
 ghost use Rattle.std.specs.Fork.{slice_chunk};
 ghost use Rattle.std.specs.Prelude.{◌≡◌, ◌+◌, ◌*◌, ◌<◌, ◌≤◌, ◌++◌, ◌∷◌, ◌⊎◌, ℕ, List, Ok, [], length, slice_index_or, take, IfOk, IsErrOf, OnOk};
-ghost use Rattle.stored_tree.specs.Blocks.{HasRoomFor};
 ghost use Rattle.stored_tree.specs.Checked.{FailsAt, IsChecked, IsOfImage, IsRightSoFar, answer_of, failing};
 ghost use Rattle.stored_tree.specs.Stored.{HasTree, HoldsTreeOf, IsStored, OfBoth, OfHashes, TakenFrom, held_blocks, held_path, levels_of};
 
+use crate::path::MOST_BYTES;
 use crate::taking::{check_data_block, take_hash_blocks};
-use crate::{BlockPath, StoredTree};
+use crate::{BlockPath, StoredTree, checked_blocks_are_of_the_image, held_trees_are_right};
 use blk_device::{Devices, VerityError, read_exact_at};
-use hash_tree::{HashAlgorithm, layout};
 use std::alloc::{AllocError, Global};
 use std::marker::Model;
 
-/// Reads paths down stored trees, block by block: each hash block is checked before the next one is taken. It has room
-/// for one path.
+/// Reads paths down stored trees, block by block: each hash block is checked before the next one is taken. It keeps the
+/// last path.
 #[derive(Debug, Drop)]
 pub struct PathReader {
     path: BlockPath,
@@ -25,36 +21,22 @@ pub struct PathReader {
 }
 
 impl Model for PathReader {
-    ghost use Rattle.std.specs.Prelude.{◌≡◌, length};
-    ghost use Rattle.stored_tree.specs.Blocks.{Blocks};
+    ghost use Rattle.std.specs.Prelude.{◌≡◌, List, ℕ, length};
 
-    ghost Value = { Blocks };
+    ghost Value = { List (List ℕ) };
 
     ghost view = { λ s. s.path };
 
-    ghost invariant = { λ s. length s.buffer.items ≡ s.path.size };
+    ghost invariant = { λ s. length s.buffer.items ≡ 4096 };
 }
 
 impl PathReader {
-    /// A reader of the trees over so many blocks, at most 16,777,216, of a size in bytes. The only error is want of
-    /// memory, and no call on it takes any.
-    pub fn new(
-        alloc: Global,
-        block_size: u32,
-        blocks: u64,
-        algorithm: HashAlgorithm,
-    ) -> Result<PathReader, AllocError>
-        requires size { IsHashBlockSize (hash_of algorithm) block_size }
-        requires few { blocks ≤ 16777216 }
-        ensures size { IfOk result (λ reader. reader.size ≡ block_size) }
-        ensures room { IfOk result (λ reader.
-            reader.room ≡ height (fan_out (hash_of algorithm) block_size) blocks + 1) }
-        ensures none { IfOk result (λ reader. reader.items ≡ []) }
+    /// A reader with room for a path down any tree. The only error is out of memory, and no call on it takes any.
+    pub fn new(alloc: Global) -> Result<PathReader, AllocError>
+        ensures { IfOk result (λ reader. reader ≡ []) }
     {
-        let size = block_size as usize;
-        let levels = levels_over(blocks, block_size, algorithm);
-        let path = BlockPath::new(alloc, size, usize::from(levels) + 1)?;
-        let buffer = vec![in alloc; 0; size]?;
+        let path = BlockPath::new(alloc)?;
+        let buffer = vec![in alloc; 0; MOST_BYTES]?;
         Ok(PathReader { path, buffer })
     }
 
@@ -71,27 +53,26 @@ impl PathReader {
     ) -> Result<(), VerityError>
         requires tree { IsStored tree.now }
         requires block { i < tree.now.blocks }
-        requires room { HasRoomFor self.old tree.now }
         requires one_block { length block.now ≡ tree.now.block_size }
         requires has_tree { HasTree (D.contents dev.old) tree.now }
 
         // No block of the path fails, and the last is the one that was handed in: that of each image with the root.
-        ensures ok { OnOk result (IsChecked tree.now i self.new.items block.now) }
-        ensures image { OnOk result (IsOfImage tree.now i self.new.items block.now) }
+        ensures ok { OnOk result (IsChecked tree.now i self.new block.now) }
+        ensures image { OnOk result (IsOfImage tree.now i self.new block.now) }
 
         // The last block of the path that was taken is the first that fails.
         ensures corrupt { (level b : ℕ) → IsErrOf result (VerityError.Corrupt level b) →
-            FailsAt tree.now i self.new.items level b }
+            FailsAt tree.now i self.new level b }
 
         // A device answered so; no block that was taken before fails.
         ensures missing { IsErrOf result VerityError.Missing →
             (0 < levels_of tree.now) × HasNone (D.contents dev.old) tree.now.device }
         ensures failed { IsErrOf result VerityError.DeviceFault → Rose (D.faults dev.old) (D.faults dev.new) }
         ensures right { IsErrOf result VerityError.DeviceFault ⊎ IsErrOf result VerityError.Missing →
-            IsRightSoFar tree.now i self.new.items }
+            IsRightSoFar tree.now i self.new }
 
         // What was taken is what the device holds, which is there if any was.
-        ensures hashes { TakenFrom (D.contents dev.old) tree.now i (take (levels_of tree.now) self.new.items) }
+        ensures hashes { TakenFrom (D.contents dev.old) tree.now i (take (levels_of tree.now) self.new) }
 
         // Unless the device failed, the answer is what the held hash blocks and the block say.
         ensures answer { OfHashes (D.contents dev.old) tree.now (λ hashes.
@@ -102,10 +83,15 @@ impl PathReader {
         ensures complete { OfHashes (D.contents dev.old) tree.now (λ hashes. (image : List (List ℕ)) →
             HoldsTreeOf tree.now hashes image → block.now ≡ slice_index_or image i [] →
             (IsErrOf result VerityError.DeviceFault → ⊥) → result ≡ Ok tt) }
+
+        // Where no level stands above the data, the device isn't asked.
+        ensures unasked { levels_of tree.now ≡ 0 → dev.new ≡ dev.old }
         ensures same { D.contents dev.new ≡ D.contents dev.old }
         ensures never_falls { D.faults dev.old ≤ D.faults dev.new }
-        ensures kept { self.new ≡ record self.old { items = self.new.items } }
+        ensures short { length self.new ≤ levels_of tree.now + 1 }
     {
+        checked_blocks_are_of_the_image();
+        held_trees_are_right();
         take_and_check(tree, &mut self.path, dev, i, &mut self.buffer, block)
     }
 
@@ -123,30 +109,29 @@ impl PathReader {
     ) -> Result<(), VerityError>
         requires tree { IsStored tree.now }
         requires block { i < tree.now.blocks }
-        requires room { HasRoomFor self.old tree.now }
         requires one_block { length out.old ≡ tree.now.block_size }
         requires has_tree { HasTree (D.contents dev.old) tree.now }
         requires has_data { HasAtLeast (D.contents dev.old) disk.now (tree.now.blocks * tree.now.block_size) }
 
         // No block of the path fails, and the last is in `out`: that of each image with the root.
-        ensures ok { OnOk result (IsChecked tree.now i self.new.items out.new) }
-        ensures image { OnOk result (IsOfImage tree.now i self.new.items out.new) }
+        ensures ok { OnOk result (IsChecked tree.now i self.new out.new) }
+        ensures image { OnOk result (IsOfImage tree.now i self.new out.new) }
 
         // The last block of the path that was taken is the first that fails.
         ensures corrupt { (level b : ℕ) → IsErrOf result (VerityError.Corrupt level b) →
-            FailsAt tree.now i self.new.items level b }
+            FailsAt tree.now i self.new level b }
 
         // A device answered so; no block that was taken before fails.
         ensures missing { IsErrOf result VerityError.Missing → HasNone (D.contents dev.old) disk.now
             ⊎ ((0 < levels_of tree.now) × HasNone (D.contents dev.old) tree.now.device) }
         ensures failed { IsErrOf result VerityError.DeviceFault → Rose (D.faults dev.old) (D.faults dev.new) }
         ensures right { IsErrOf result VerityError.DeviceFault ⊎ IsErrOf result VerityError.Missing →
-            IsRightSoFar tree.now i self.new.items }
+            IsRightSoFar tree.now i self.new }
 
         // What was taken is what the devices hold, each of which is there if a block of it was taken.
-        ensures hashes { TakenFrom (D.contents dev.old) tree.now i (take (levels_of tree.now) self.new.items) }
-        ensures data { levels_of tree.now < length self.new.items → OnDevice (D.contents dev.old) disk.now (λ bytes.
-            slice_index_or self.new.items (levels_of tree.now) [] ≡ slice_chunk bytes tree.now.block_size i) }
+        ensures hashes { TakenFrom (D.contents dev.old) tree.now i (take (levels_of tree.now) self.new) }
+        ensures data { levels_of tree.now < length self.new → OnDevice (D.contents dev.old) disk.now (λ bytes.
+            slice_index_or self.new (levels_of tree.now) [] ≡ slice_chunk bytes tree.now.block_size i) }
 
         // Unless a device failed, the answer is what the path that they hold says.
         ensures answer { OfBoth (D.contents dev.old) disk.now tree.now (λ bytes hashes.
@@ -159,9 +144,11 @@ impl PathReader {
             (IsErrOf result VerityError.DeviceFault → ⊥) → result ≡ Ok tt) }
         ensures same { D.contents dev.new ≡ D.contents dev.old }
         ensures never_falls { D.faults dev.old ≤ D.faults dev.new }
-        ensures kept { self.new ≡ record self.old { items = self.new.items } }
+        ensures short { length self.new ≤ levels_of tree.now + 1 }
         ensures long { length out.new ≡ length out.old }
     {
+        checked_blocks_are_of_the_image();
+        held_trees_are_right();
         take_and_read(tree, disk, &mut self.path, dev, i, out)
     }
 
@@ -170,19 +157,6 @@ impl PathReader {
         ensures { result.now ≡ self.now }
     {
         &self.path
-    }
-}
-
-// How many levels stand above so many blocks: above one block, or none, there are none.
-fn levels_over(blocks: u64, block_size: u32, algorithm: HashAlgorithm) -> u8
-    requires size { IsHashBlockSize (hash_of algorithm) block_size }
-    requires few { blocks ≤ 16777216 }
-    ensures height { result ≡ height (fan_out (hash_of algorithm) block_size) blocks }
-    ensures low { result ≤ 24 }
-{
-    match blocks {
-        0 => 0,
-        blocks => layout(blocks, block_size, algorithm).levels,
     }
 }
 
@@ -197,26 +171,27 @@ fn take_and_check<D: Devices>(
 ) -> Result<(), VerityError>
     requires tree { IsStored tree.now }
     requires block { i < tree.now.blocks }
-    requires room { HasRoomFor path.old tree.now }
-    requires buffer { length buffer.old ≡ tree.now.block_size }
+    requires buffer { length buffer.old ≡ 4096 }
     requires one_block { length block.now ≡ tree.now.block_size }
     requires has_tree { HasTree (D.contents dev.old) tree.now }
-    ensures ok { OnOk result (IsChecked tree.now i path.new.items block.now) }
+    ensures ok { OnOk result (IsChecked tree.now i path.new block.now) }
     ensures corrupt { (level b : ℕ) → IsErrOf result (VerityError.Corrupt level b) →
-        FailsAt tree.now i path.new.items level b }
+        FailsAt tree.now i path.new level b }
     ensures right { IsErrOf result VerityError.DeviceFault ⊎ IsErrOf result VerityError.Missing →
-        IsRightSoFar tree.now i path.new.items }
+        IsRightSoFar tree.now i path.new }
     ensures failed { IsErrOf result VerityError.DeviceFault → Rose (D.faults dev.old) (D.faults dev.new) }
-    ensures hashes { TakenFrom (D.contents dev.old) tree.now i (take (levels_of tree.now) path.new.items) }
+    ensures hashes { TakenFrom (D.contents dev.old) tree.now i (take (levels_of tree.now) path.new) }
     ensures missing { IsErrOf result VerityError.Missing →
         (0 < levels_of tree.now) × HasNone (D.contents dev.old) tree.now.device }
     ensures front { OfHashes (D.contents dev.old) tree.now (λ hashes.
-        path.new.items ≡ take (length path.new.items) (held_blocks tree.now hashes i ++ block.now ∷ [])) }
+        path.new ≡ take (length path.new) (held_blocks tree.now hashes i ++ block.now ∷ [])) }
+    ensures unasked { levels_of tree.now ≡ 0 → dev.new ≡ dev.old }
     ensures same { D.contents dev.new ≡ D.contents dev.old }
     ensures never_falls { D.faults dev.old ≤ D.faults dev.new }
-    ensures kept { path.new ≡ record path.old { items = path.new.items } }
+    ensures short { length path.new ≤ levels_of tree.now + 1 }
     ensures long { length buffer.new ≡ length buffer.old }
 {
+    let buffer = &mut buffer[..tree.block_size as usize];
     let wanted = take_hash_blocks(tree, path, dev, i, buffer)?;
     check_data_block(tree, path, i, wanted.as_slice(), block)
 }
@@ -232,26 +207,25 @@ fn take_and_read<D: Devices>(
 ) -> Result<(), VerityError>
     requires tree { IsStored tree.now }
     requires block { i < tree.now.blocks }
-    requires room { HasRoomFor path.old tree.now }
     requires buffer { length buffer.old ≡ tree.now.block_size }
     requires has_tree { HasTree (D.contents dev.old) tree.now }
     requires has_data { HasAtLeast (D.contents dev.old) disk.now (tree.now.blocks * tree.now.block_size) }
-    ensures ok { OnOk result (IsChecked tree.now i path.new.items buffer.new) }
+    ensures ok { OnOk result (IsChecked tree.now i path.new buffer.new) }
     ensures corrupt { (level b : ℕ) → IsErrOf result (VerityError.Corrupt level b) →
-        FailsAt tree.now i path.new.items level b }
+        FailsAt tree.now i path.new level b }
     ensures right { IsErrOf result VerityError.DeviceFault ⊎ IsErrOf result VerityError.Missing →
-        IsRightSoFar tree.now i path.new.items }
+        IsRightSoFar tree.now i path.new }
     ensures failed { IsErrOf result VerityError.DeviceFault → Rose (D.faults dev.old) (D.faults dev.new) }
-    ensures hashes { TakenFrom (D.contents dev.old) tree.now i (take (levels_of tree.now) path.new.items) }
+    ensures hashes { TakenFrom (D.contents dev.old) tree.now i (take (levels_of tree.now) path.new) }
     ensures missing { IsErrOf result VerityError.Missing → HasNone (D.contents dev.old) disk.now
         ⊎ ((0 < levels_of tree.now) × HasNone (D.contents dev.old) tree.now.device) }
-    ensures data { levels_of tree.now < length path.new.items → OnDevice (D.contents dev.old) disk.now (λ bytes.
-        slice_index_or path.new.items (levels_of tree.now) [] ≡ slice_chunk bytes tree.now.block_size i) }
+    ensures data { levels_of tree.now < length path.new → OnDevice (D.contents dev.old) disk.now (λ bytes.
+        slice_index_or path.new (levels_of tree.now) [] ≡ slice_chunk bytes tree.now.block_size i) }
     ensures front { OfBoth (D.contents dev.old) disk.now tree.now (λ bytes hashes.
-        path.new.items ≡ take (length path.new.items) (held_path tree.now bytes hashes i)) }
+        path.new ≡ take (length path.new) (held_path tree.now bytes hashes i)) }
     ensures same { D.contents dev.new ≡ D.contents dev.old }
     ensures never_falls { D.faults dev.old ≤ D.faults dev.new }
-    ensures kept { path.new ≡ record path.old { items = path.new.items } }
+    ensures short { length path.new ≤ levels_of tree.now + 1 }
     ensures long { length buffer.new ≡ length buffer.old }
 {
     let wanted = take_hash_blocks(tree, path, dev, i, buffer)?;

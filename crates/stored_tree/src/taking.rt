@@ -4,7 +4,7 @@ ghost use Rattle.stored_tree.specs.Stored.{HasTree, IsStored, TakenFrom, held_bl
 ghost use Rattle.hash_tree.specs.Hash.{hash_of};
 ghost use Rattle.hash_tree.specs.Path.{digest_in};
 ghost use Rattle.ipe_words.specs.Count.{Rose};
-ghost use Rattle.std.specs.Prelude.{◌≡◌, ◌+◌, ◌*◌, ◌/◌, ◌^◌, ◌<◌, ◌≤◌, ◌++◌, ◌∷◌, ◌⊎◌, ℕ, [], length, IfOk, IsErrOf, IsOk, OnOk};
+ghost use Rattle.std.specs.Prelude.{◌≡◌, ◌+◌, ◌*◌, ◌/◌, ◌^◌, ◌<◌, ◌≤◌, ◌++◌, ◌∷◌, ◌⊎◌, ℕ, [], length, All, IfOk, IsErrOf, IsOk, OnOk};
 
 use crate::{BlockPath, StoredTree};
 use arrayvec::ArrayVec;
@@ -26,13 +26,11 @@ pub(crate) fn take_hash_blocks<D: Devices>(
 ) -> Result<ArrayVec<u8, 64>, VerityError>
     requires tree { IsStored tree.now }
     requires block { i < tree.now.blocks }
-    requires size { path.old.size ≡ tree.now.block_size }
-    requires room { levels_of tree.now < path.old.room }
     requires buffer { length buffer.old ≡ tree.now.block_size }
     requires has_tree { HasTree (D.contents dev.old) tree.now }
-    ensures leads { IfOk result (λ wanted. LeadsTo tree.now i path.new.items wanted.items) }
+    ensures leads { IfOk result (λ wanted. LeadsTo tree.now i path.new wanted.items) }
     ensures corrupt { (level b : ℕ) → IsErrOf result (VerityError.Corrupt level b) →
-        FailsAt tree.now i path.new.items level b }
+        FailsAt tree.now i path.new level b }
     ensures above { (level b : ℕ) → IsErrOf result (VerityError.Corrupt level b) → 0 < level }
 
     // The device answered so; no block that was taken before fails.
@@ -40,17 +38,18 @@ pub(crate) fn take_hash_blocks<D: Devices>(
         (0 < levels_of tree.now) × HasNone (D.contents dev.old) tree.now.device }
     ensures failed { IsErrOf result VerityError.DeviceFault → Rose (D.faults dev.old) (D.faults dev.new) }
     ensures right { IsErrOf result VerityError.DeviceFault ⊎ IsErrOf result VerityError.Missing →
-        IsRightSoFar tree.now i path.new.items }
+        IsRightSoFar tree.now i path.new }
 
     // What was taken is the front of what the device holds, which is there if any was. Where no level stands above the
     // data it isn't asked.
-    ensures held { TakenFrom (D.contents dev.old) tree.now i path.new.items }
+    ensures held { TakenFrom (D.contents dev.old) tree.now i path.new }
     ensures unasked { levels_of tree.now ≡ 0 → dev.new ≡ dev.old }
     ensures asked { levels_of tree.now ≡ 0 → IsOk result }
-    ensures short { length path.new.items ≤ levels_of tree.now }
+    ensures short { length path.new ≤ levels_of tree.now }
+    ensures low { levels_of tree.now ≤ 12 }
+    ensures sizes { All (λ block. length block ≡ tree.now.block_size) path.new }
     ensures same { D.contents dev.new ≡ D.contents dev.old }
     ensures never_falls { D.faults dev.old ≤ D.faults dev.new }
-    ensures kept { path.new ≡ record path.old { items = path.new.items } }
     ensures long { length buffer.new ≡ length buffer.old }
 {
     let fan_out = tree.algorithm.fan_out(tree.block_size);
@@ -83,16 +82,18 @@ pub(crate) fn check_data_block(
     wanted: &[u8],
     block: &[u8],
 ) -> Result<(), VerityError>
-    requires leads { LeadsTo tree.now i path.old.items wanted.now }
-    requires size { length block.now ≡ path.old.size }
-    requires room { levels_of tree.now < path.old.room }
-    ensures ok { OnOk result (IsChecked tree.now i path.new.items block.now) }
+    requires leads { LeadsTo tree.now i path.old wanted.now }
+    requires some { 0 < length block.now }
+    requires small { length block.now ≤ 4096 }
+    requires one_size { All (λ above. length above ≡ length block.now) path.old }
+    requires room { length path.old < 13 }
+    ensures ok { OnOk result (IsChecked tree.now i path.new block.now) }
     ensures corrupt { (level b : ℕ) → IsErrOf result (VerityError.Corrupt level b) →
-        FailsAt tree.now i path.new.items level b }
+        FailsAt tree.now i path.new level b }
     ensures here { (level b : ℕ) → IsErrOf result (VerityError.Corrupt level b) → (level ≡ 0) × (b ≡ i) }
     ensures no_fault { IsErrOf result VerityError.DeviceFault → ⊥ }
     ensures none_missing { IsErrOf result VerityError.Missing → ⊥ }
-    ensures added { path.new ≡ record path.old { items = path.old.items ++ block.now ∷ [] } }
+    ensures added { path.new ≡ path.old ++ block.now ∷ [] }
 {
     path.push(block);
     if wanted == tree.algorithm.salted_digest(tree.salt, block).as_slice() {
