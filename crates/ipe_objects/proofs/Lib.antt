@@ -2,3 +2,6 @@ mod Named
 mod Needed
 mod Standing
 mod Loaded
+mod Placing
+mod Sizes
+mod Sealing

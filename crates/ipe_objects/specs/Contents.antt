@@ -8,9 +8,9 @@ use Rattle.blk_device.specs.Contents.{Contents}
 use Rattle.stored_tree.specs.Stored.{held_path as volume_path}
 use Rattle.stored_tree.specs.Checked.{failing}
 use Rattle.dmv_volume.specs.Table.{TableParts}
-use Rattle.dmv_volume.specs.Reading.{tree_of as volume_tree}
+use Rattle.dmv_volume.specs.Reading.{tree_of_volume}
 use Rattle.fsv_tree.specs.Descriptor.{DescriptorParts}
-use Rattle.fsv_file.specs.File.{Attached, block_size_of, blocks_of, held_path, tree_of}
+use Rattle.fsv_file.specs.File.{FileParts, file_block_size, blocks_of, path_to, tree_of_file}
 use Rattle.ipe_transcript.specs.declared.transcript.Content.{Content}
 use Rattle.ipe_transcript.specs.declared.transcript.Content.TheVariants.{Hash, VolumeCorrupt, FileCorrupt, BadDescriptor}
 use Rattle.ipe_requests.specs.declared.script.VolumeLine.{VolumeLine}
@@ -27,8 +27,8 @@ use Rattle.ipe_objects.specs.Seals.{descriptor_of, sealed_file}
 -- the first block, from the top down, of the path to a data block of a volume that fails, by its level and number
 abbrev pub volume_fault_at : Contents → TableParts → ℕ → Option (ℕ × ℕ)
 volume_fault_at images table i =
-    failing (volume_tree table) i
-    (volume_path (volume_tree table) (bytes_under images table.device) (bytes_under images table.hash_device) i)
+    failing (tree_of_volume table) i
+    (volume_path (tree_of_volume table) (bytes_under images table.device) (bytes_under images table.hash_device) i)
 
 -- the same of the first data block of these bytes whose path fails
 abbrev pub range_fault : Contents → ℕ → ℕ → TableParts → Option (ℕ × ℕ)
@@ -42,13 +42,13 @@ volume_fault script images (form.Volume volume first size ino) =
 volume_fault script images other = None
 
 -- the first block, from the top down, of the path to a file's own block that fails
-abbrev pub file_fault_at : Contents → Attached → List ℕ → ℕ → Option (ℕ × ℕ)
+abbrev pub file_fault_at : Contents → FileParts → List ℕ → ℕ → Option (ℕ × ℕ)
 file_fault_at images file bytes i =
-    failing (tree_of file) i (held_path file (bytes_under images file.device) i
-    (slice_index_or (data_blocks (block_size_of file.descriptor) bytes) i []))
+    failing (tree_of_file file) i (path_to file (bytes_under images file.device) i
+    (slice_index_or (data_blocks (file_block_size file.descriptor) bytes) i []))
 
 -- the same of the first block of a file whose path fails
-abbrev pub file_fault : Contents → List ℕ → Attached → Option (ℕ × ℕ)
+abbrev pub file_fault : Contents → List ℕ → FileParts → Option (ℕ × ℕ)
 file_fault images bytes file =
     first_some (file_fault_at images file bytes) (range_with_len 0 (blocks_of file.descriptor))
 

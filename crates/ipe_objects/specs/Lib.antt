@@ -5,3 +5,5 @@ pub mod Files
 pub mod Seals
 pub mod Contexts
 pub mod Contents
+pub mod Places
+pub mod Ready
