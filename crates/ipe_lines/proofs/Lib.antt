@@ -1,0 +1,10 @@
+pub mod Events
+pub mod Order
+pub mod Each
+pub mod Given
+pub mod Within
+pub mod ReadPolicies
+pub mod WholePolicies
+pub mod Records
+pub mod Spelling
+pub mod Words

@@ -1,0 +1,5 @@
+pub mod Asked
+pub mod Files
+pub mod Told
+pub mod Spelled
+pub mod Events
