@@ -1,19 +1,16 @@
 -- Which records a command and an access make.
 use Rattle.std.specs.Prelude.{ℕ, Bool, if◌then◌else◌, List, [], ◌∷◌, Option, Some, None}
-use Rattle.std.specs.Option.{option_map, option_map_or, option_and_then}
+use Rattle.std.specs.Option.{option_map, option_map_or}
 use Rattle.sha2.specs.Sha256.{sha256}
 use Rattle.ipe_policy.specs.declared.op.Op.{Op}
 use Rattle.ipe_policy.specs.declared.request.Request.{Request}
 use Rattle.ipe_policy.specs.declared.request.Subject.{Subject}
 use Rattle.ipe_policy.specs.declared.request.Object.{Object}
 use Rattle.ipe_policy.specs.declared.evaluation.Context.{Context}
-use Rattle.ipe_policy.specs.declared.evaluation.Found.{Found}
 use Rattle.ipe_policy.specs.declared.statement.Statement.{Statement}
-use Rattle.ipe_policy.specs.Evaluation.{decision}
+use Rattle.ipe_policy.specs.Evaluation.{deciding_statement}
 use Rattle.ipe_policy.specs.Request.{evaluated_op, hook_of}
 use Rattle.ipe_policy.specs.Spelling.{statement_text}
-use Rattle.ipe_image.specs.Parts.{parts_of}
-use Rattle.ipe_image.specs.Decision.{deciding}
 use Rattle.ipe_audit.specs.declared.records.Brief.{Brief}
 use Rattle.ipe_audit.specs.Records.{access_text, activation_text, enforce_text, load_text}
 use Rattle.ipe_machine.specs.declared.command.Command.{Command}
@@ -56,13 +53,11 @@ abbrev pub access_by : Policies → Request → Subject → Object → Op → St
 access_by policies request subject object op statement =
     access_text op (hook_of request) policies.enforce subject object (statement_text statement)
 
--- the record of an access that is ruled by an entry's policy
+-- the record of an access that is ruled by an entry's policy: its deciding statement decided
 abbrev pub access_under : Policies → Request → Subject → Object → Context → Op → state.Loaded → Option (List ℕ)
 access_under policies request subject object context op entry =
-    option_and_then (λ (found : Found).
     option_map (access_by policies request subject object op)
-    (deciding (parts_of entry.serial (policy_in entry.text).items) op found))
-    (decision (policy_in entry.text).items op context)
+    (deciding_statement (policy_in entry.text).items op context)
 
 -- the same of an access for an operation, if a policy is active
 abbrev pub access_for : Policies → Request → Subject → Object → Context → Option Op → Option state.Loaded

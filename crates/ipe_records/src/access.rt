@@ -6,9 +6,7 @@ ghost use Rattle.ipe_records.specs.Records.{access_of, is_access_due};
 ghost use Rattle.ipe_records.specs.Ruled.{IsImageOf, IsKept, IsRuledBy, parts_in};
 
 use ipe_audit::{LineBytes, access_line};
-use ipe_image::{
-    CompileError, Hit, Image, SliceReader, compile, decide_words, images_are_read_as_themselves,
-};
+use ipe_image::{CompileError, Hit, Image, SliceReader, compile, decide_words};
 use ipe_policy::{Context, Object, Op, Request, Subject};
 use ipe_registry::{Entry, Registry};
 use std::alloc::{AllocError, Global};
@@ -73,7 +71,6 @@ pub fn access_record(
         access_of registry.now request subject.now object.now context.now) }
     ensures kept { IsKept registry.now kept.new }
 {
-    images_are_read_as_themselves();
     let (Some(op), Some(entry)) = (request.op(), registry.active_entry()) else {
         return Ok(None);
     };

@@ -24,4 +24,4 @@ returns-clause-access c =
     (deciding_statement items op context) ≡ Some c.in_ok-line.line.items =
     rw (← c.hook.ensures, ← c.enforce-enforce.ensures) line in
     ap (λ (text : List ℕ). Some text) c.from_vec.ensures
-    ∙ sym (access_told c.images_are_read_as_themselves.ensures.decides c.images_are_read_as_themselves.ensures.statement policies request subject object context op entry c.in_ok-hit.hit c.in_ok-line.line.items asked active c.requires.due ruled told)
+    ∙ sym (access_told policies request subject object context op entry c.in_ok-line.line.items asked active c.requires.due told)
