@@ -1,0 +1,11 @@
+pub mod Lists
+pub mod Histories
+pub mod Named
+pub mod InForce
+pub mod Making
+pub mod Meeting
+pub mod Planned
+pub mod Regions
+pub mod Seats
+pub mod Whole
+pub mod Answering
