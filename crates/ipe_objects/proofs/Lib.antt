@@ -5,3 +5,5 @@ mod Loaded
 mod Placing
 mod Sizes
 mod Sealing
+mod Checking
+mod Parts

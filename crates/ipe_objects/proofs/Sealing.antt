@@ -1,7 +1,7 @@
 -- Descriptors that are accepted or refused.
-use Rattle.std.proofs.Common.{◌≡◌, ◌∙◌, ℕ, zero, suc, ◌+◌, ◌-◌, ◌<◌, ◌≤◌, nat_le, Bool, true, false, cond, List, length, take, drop, Some, None, Ok, Err, refl, ap, sym, arith, inl, inr, ◌⊎◌}
+use Rattle.std.proofs.Common.{Result, ◌≡◌, ◌∙◌, ℕ, zero, suc, ◌+◌, ◌-◌, ◌<◌, ◌≤◌, nat_le, Bool, true, false, cond, List, length, take, drop, Some, None, Ok, Err, refl, ap, sym, arith, inl, inr, ◌⊎◌, Option, subst}
 use Rattle.std.specs.List.{find, range_with_len}
-use Rattle.std.proofs.lemmas.Bool.{cases_lt, le-leb, lt-leb}
+use Rattle.std.proofs.lemmas.Bool.{cases_lt, le-leb, leb-true, lt-leb}
 use Rattle.blk_device.specs.Contents.{Contents}
 use Rattle.fsv_tree.specs.Descriptor.{DescriptorParts, IsFirstBreak, IsSound, breaks, said_by}
 use Rattle.fsv_file.specs.File.{tree_of_file}
@@ -97,3 +97,25 @@ beyond-is images seal size held bytes descriptor same is sound said beyond =
     sound-is images seal size held bytes descriptor same is sound said
     ∙ ap (λ (b : Bool). cond b (Ok descriptor) (Err 256))
     (lt-leb (end_of (tree_of_file (sealed_file seal descriptor))) (length held) beyond)
+
+accepted-within : (seal : SealLine) (room : ℕ) (said descriptor : DescriptorParts) (bad : Option ℕ)
+    → accepted seal room said bad ≡ Ok descriptor → end_of (tree_of_file (sealed_file seal descriptor)) ≤ room
+accepted-within seal room said descriptor (Some byte) is = absurd (cc)
+accepted-within seal room said descriptor None is = by (nat_le (end_of (tree_of_file (sealed_file seal said))) room) refl is
+  where
+    by : (b : Bool) → nat_le (end_of (tree_of_file (sealed_file seal said))) room ≡ b
+        → cond {A = Result DescriptorParts ℕ} b (Ok said) (Err 256) ≡ Ok descriptor → end_of (tree_of_file (sealed_file seal descriptor)) ≤ room
+    by true le e =
+        let same : said ≡ descriptor = cc in
+        subst (λ (d : DescriptorParts). end_of (tree_of_file (sealed_file seal d)) ≤ room) same
+        (leb-true (end_of (tree_of_file (sealed_file seal said))) room le)
+    by false le e = absurd (cc)
+
+-- the tree of an accepted descriptor ends on the device
+pub ends-within : (images : Contents) (seal : SealLine) (size : ℕ) (descriptor : DescriptorParts)
+    → descriptor_of images seal size ≡ Ok descriptor
+    → end_of (tree_of_file (sealed_file seal descriptor)) ≤ length (bytes_under images seal.device)
+ends-within images seal size descriptor is =
+    let device : List ℕ = bytes_under images seal.device in
+    let bytes : List ℕ = take 256 (drop seal.at device) in
+    accepted-within seal (length device) (said_by bytes size) descriptor (first_bad_byte bytes size) is

@@ -55,3 +55,11 @@ pub stands-at : {A : Type 0} (items : List A) (i : ℕ) (item : A) → i < lengt
 stands-at [] i item within is = absurd (omega arith)
 stands-at (other ∷ items) zero item within is = inl (sym is)
 stands-at (other ∷ items) (suc i) item within is = inr (stands-at items i item (omega arith) is)
+
+-- what stands in a list has a place there
+pub stands-contains : {A : Type 0} (item : A) (items : List A) → Stands item items
+    → (k : ℕ) × (k < length items) × (get_or items k item ≡ item)
+stands-contains item [] stands = absurd stands
+stands-contains item (other ∷ items) (inl is) = (0, omega arith, is)
+stands-contains item (other ∷ items) (inr among) =
+    let at = stands-contains item items among in (suc at.0, omega (arith, at.1), at.2)

@@ -172,8 +172,8 @@ fn part<'x>(bytes: &'x [u8], at: u64, size: u64) -> &'x [u8]
     &rest[..rest.len().min(size as usize)]
 }
 
-// So many bytes of a volume's data from a data block on.
-fn range_of<'x>(images: &'x Images, first: u64, size: u64, table: &Table) -> &'x [u8]
+/// So many bytes of a volume's data from a data block on.
+pub fn range_of<'x>(images: &'x Images, first: u64, size: u64, table: &Table) -> &'x [u8]
     ensures { result.now ≡ range_of images.now first size table.now }
 {
     let data = part(bytes_under(images, table.device()), 0, data_need(table));

@@ -1,7 +1,8 @@
-//! The devices and files of a request file: the images of its devices, the context of each declared file, and what is
-//! meant by what a file comes to when it is read block by block.
+//! The devices and files of a request file: the images of its devices, the context of each declared file, and what a
+//! file comes to when it is read block by block.
 //!
 //! [`load_images`] loads the devices. [`Objects`] has the declared files, each with its context, found by its path.
+//! [`read_file`] reads one through a worker's [`View`]: the blocks of its volume are checked first, then its own.
 #![tactic(auto)]
 
 mod declared;
@@ -10,7 +11,11 @@ mod line;
 mod names;
 mod objects;
 mod places;
+mod reading;
 mod seals;
+mod view;
 
 pub use images::{Images, ImagesError, load_images};
 pub use objects::Objects;
+pub use reading::read_file;
+pub use view::View;
