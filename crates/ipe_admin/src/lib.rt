@@ -20,3 +20,6 @@ pub use ipe_machine::{Act, Command, Done, Refusal, Text, Value};
 pub use ipe_registry::Registry;
 pub use nodes::{read_node, write_node};
 pub use outcome::Outcome;
+
+#[cfg(test)]
+mod tests;
