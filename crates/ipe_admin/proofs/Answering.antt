@@ -43,7 +43,9 @@ nothing_changed verdicts asked a outcome after none reply epoch records = record
   reply = reply;
   epoch = epoch;
   records = records;
-  gone_on = subst (λ (entry : Option Loaded). HasGoneOn entry (begun (policies_in a) (policies_in a)) (gate_in a) (gate_in a)) (sym none) (still_gone_on (policies_in a) (gate_in a));
+  gone_on =
+      subst (λ (entry : Option Loaded). HasGoneOn entry (begun (policies_in a) (after_write verdicts (policies_in a) asked)) (gate_in a) (gate_in a)) (sym none)
+      (subst (λ (ps : Policies). HasGoneOn None (begun (policies_in a) ps) (gate_in a) (gate_in a)) (sym after) (still_gone_on (policies_in a) (gate_in a)));
 }
 
 -- a plan without a change
@@ -65,5 +67,7 @@ plan_made verdicts command a b change outcome is done reply epoch records = reco
   reply = reply ∙ sym is.0;
   epoch = epoch;
   records = records ∙ ap (records_with (policies_in a)) (sym is.1);
-  gone_on = subst (λ (entry : Option Loaded). HasGoneOn entry (begun (policies_in a) (policies_in b)) (gate_in a) (gate_in b)) (sym (ap (option_and_then entry_in) is.1)) done.gone_on;
+  gone_on =
+      subst (λ (entry : Option Loaded). HasGoneOn entry (begun (policies_in a) (after_write verdicts (policies_in a) (Ok command))) (gate_in a) (gate_in b)) (sym (ap (option_and_then entry_in) is.1))
+      (subst (λ (ps : Policies). HasGoneOn (entry_in change) (begun (policies_in a) ps) (gate_in a) (gate_in b)) (done.policies ∙ sym is.2) done.gone_on);
 }

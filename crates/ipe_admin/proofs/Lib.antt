@@ -4,6 +4,7 @@ pub mod Named
 pub mod InForce
 pub mod Making
 pub mod Meeting
+pub mod Lines
 pub mod Planned
 pub mod Regions
 pub mod Seats

@@ -1,5 +1,5 @@
 -- What a write to a node, and a command, do.
-use Rattle.std.specs.Prelude.{◌≡◌, ℕ, ◌==◌, cond, List, [], ◌∷◌, ◌++◌, length, map, Option, Some, None, Result, Ok, Err}
+use Rattle.std.specs.Prelude.{◌≡◌, ℕ, ◌==◌, Bool, not, cond, List, [], ◌∷◌, ◌++◌, length, map, Option, Some, None, Result, Ok, Err}
 use Rattle.std.specs.List.{AllZip}
 use Rattle.std.specs.Option.{option_and_then}
 use Rattle.ipe_image.specs.Image.{image_of}
@@ -17,7 +17,7 @@ use Rattle.ipe_gate.specs.Seats.{admin_gate, admin_mine, admin_seen, passes_made
 use Rattle.ipe_gate.specs.Placing.{looks_to, stores_of}
 use Rattle.ipe_weave.specs.Acts.{Act, Since}
 use Rattle.ipe_weave.specs.Gate.{GateBegins}
-use Rattle.ipe_weave.specs.Lines.{after_write, write_answer, write_records}
+use Rattle.ipe_weave.specs.Lines.{Acted, Write, after_write, write_answer, write_records, wrote}
 use Rattle.ipe_admin.specs.declared.admin.Admin.{Admin}
 use Rattle.ipe_admin.specs.declared.outcome.Outcome.{Outcome}
 
@@ -28,10 +28,6 @@ gate_in admin = admin.gate
 -- the policies, the switches and the epoch
 abbrev pub policies_in : Admin → Policies
 policies_in admin = admin.registry
-
--- what the administrator has seen of the gate's one history
-abbrev pub seen_by : Admin → List Event
-seen_by admin = admin_seen admin.gate
 
 -- it is the administrator of the same gate, with as many passes
 pub record SameGate (a b : Admin) : Type 0 where
@@ -82,5 +78,12 @@ pub record IsOutcome (verdicts : Verdicts) (asked : Result Command Refusal) (a b
   pub reply : outcome.reply ≡ write_answer verdicts (policies_in a) asked
   pub epoch : outcome.epoch ≡ (policies_in b).epoch
   pub records : outcome.records ≡ write_records verdicts (policies_in a) asked
-  pub gone_on : HasGoneOn (brought verdicts (policies_in a) asked) (begun (policies_in a) (policies_in b))
-      (gate_in a) (gate_in b)
+  pub gone_on : HasGoneOn (brought verdicts (policies_in a) asked)
+      (begun (policies_in a) (after_write verdicts (policies_in a) asked)) (gate_in a) (gate_in b)
+
+-- the line of a write with its reply: what its outcome says, and whether the epoch rose
+abbrev pub written : ℕ → Bool → Result Command Refusal → Policies → Outcome → Acted
+written number may asked before outcome = record {
+  line = record { number = number; task = Write may asked };
+  reply = wrote outcome.epoch (not (outcome.epoch == before.epoch)) outcome.reply outcome.records;
+}
