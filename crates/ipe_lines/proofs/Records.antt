@@ -1,7 +1,7 @@
 -- The records of commands and accesses stand within lines, and none of them begins as an entry does.
 use Rattle.std.proofs.Common.{◌≡◌, ℕ, ◌+◌, ◌-◌, suc, Bool, true, false, cond, List, [], ◌∷◌, ◌++◌, drop, take, Option, Some, None, Result, Ok, Err, refl}
-use Rattle.std.specs.Prelude.{codes, slice_get, slice_set}
-use Rattle.std.specs.List.{AllByRecursion, filter_map, remove}
+use Rattle.std.specs.Prelude.{codes, is_some, slice_get, slice_set}
+use Rattle.std.specs.List.{AllByRecursion, filter, find, remove}
 use Rattle.std.specs.Fmt.{decimal}
 use Rattle.std.specs.Option.{option_map, option_map_or}
 use Rattle.std.proofs.lemmas.List.Elements.{All-append, All-drop, All-from_recursion, All-set, All-take, recursion_from_All}
@@ -20,13 +20,10 @@ use Rattle.ipe_policy.specs.declared.evaluation.Which.{Which}
 use Rattle.ipe_policy.specs.declared.evaluation.Which.TheVariants as which
 use Rattle.ipe_policy.specs.declared.statement.Statement.{Statement}
 use Rattle.ipe_policy.specs.declared.statement.Statement.TheVariants.{Rule, OpDefault, GlobalDefault}
-use Rattle.ipe_policy.specs.Evaluation.{decision}
+use Rattle.ipe_policy.specs.Evaluation.{decision, deciding_statement, found_statement}
 use Rattle.ipe_policy.specs.Request.{evaluated_op, hook_of}
 use Rattle.ipe_policy.specs.Spelling.{bit_text, op_word, statement_text, version_text}
-use Rattle.ipe_policy.specs.Statement.{RuleParts, rule_of}
-use Rattle.ipe_image.specs.Parts.{ImageParts, parts_of}
-use Rattle.ipe_image.specs.Parts.{rule_statement}
-use Rattle.ipe_image.specs.Decision.{deciding}
+use Rattle.ipe_policy.specs.Statement.{global_default_of, op_default_of, rule_of}
 use Rattle.ipe_audit.specs.declared.records.Brief.{Brief}
 use Rattle.ipe_audit.specs.Records.{access_text, activation_text, enforce_text, hook_word, load_text, new_text}
 use Rattle.ipe_audit.specs.Records.{object_text, old_text, told}
@@ -258,41 +255,45 @@ command_recorded verdicts policies command all = made_recorded policies (change_
 
 -- ---- the record of an access
 
--- the properties of a rule stand within lines
-abbrev IsWholeRule : RuleParts → Type 0
-IsWholeRule rule = AllByRecursion IsWholeProperty rule.properties
+-- the statements that pass a test
+kept_whole : (test : Bool) (item : Statement) (items : List Statement) → IsWholeStatement item → AllByRecursion IsWholeStatement items → AllByRecursion IsWholeStatement (cond test (item ∷ items) items)
+kept_whole true item items whole all = (whole, all)
+kept_whole false item items whole all = all
 
--- the rules of statements
-rules_whole : (items : List Statement) → AllByRecursion IsWholeStatement items → AllByRecursion IsWholeRule (filter_map rule_of items)
-rules_whole [] all = tt
-rules_whole (Rule what properties action ∷ items) all = (all.0, rules_whole items all.1)
-rules_whole (OpDefault what action ∷ items) all = rules_whole items all.1
-rules_whole (GlobalDefault action ∷ items) all = rules_whole items all.1
+filtered_whole : (passes : Statement → Bool) (items : List Statement) → AllByRecursion IsWholeStatement items → AllByRecursion IsWholeStatement (filter passes items)
+filtered_whole passes [] all = tt
+filtered_whole passes (item ∷ items) all = kept_whole (passes item) item (filter passes items) all.0 (filtered_whole passes items all.1)
+
+-- the first statement that passes a test
+either_whole : (test : Bool) (item : Statement) (later : Option Statement) → IsWholeStatement item → Found IsWholeStatement later → Found IsWholeStatement (cond test (Some item) later)
+either_whole true item later whole all = whole
+either_whole false item later whole all = all
+
+sought_whole : (passes : Statement → Bool) (items : List Statement) → AllByRecursion IsWholeStatement items → Found IsWholeStatement (find passes items)
+sought_whole passes [] all = tt
+sought_whole passes (item ∷ items) all = either_whole (passes item) item (find passes items) all.0 (sought_whole passes items all.1)
 
 -- the statement that decided
-deciding_whole : (parts : ImageParts) (what : Op) (action : Action) (decided : Which) → AllByRecursion IsWholeRule parts.rules
-    → Found IsWholeStatement (deciding parts what (record { action = action; which = decided }))
-deciding_whole parts what action (which.Rule number) all =
-    found_made IsWholeRule IsWholeStatement rule_statement (slice_get parts.rules (number - 1)) (get_all IsWholeRule parts.rules (number - 1) all) (λ (rule : RuleParts) h. h)
-deciding_whole parts what action which.OpDefault all = tt
-deciding_whole parts what action which.GlobalDefault all = tt
+by_which_whole : (items : List Statement) (what : Op) (decided : Which) → AllByRecursion IsWholeStatement items → Found IsWholeStatement (found_statement items what decided)
+by_which_whole items what (which.Rule number) all =
+    let rules : List Statement = filter (λ item. is_some (rule_of item)) items in
+    get_all IsWholeStatement rules (number - 1) (filtered_whole (λ item. is_some (rule_of item)) items all)
+by_which_whole items what which.OpDefault all = sought_whole (λ item. is_some (op_default_of what item)) items all
+by_which_whole items what which.GlobalDefault all = sought_whole (λ item. is_some (global_default_of item)) items all
+
+deciding_whole : (items : List Statement) (what : Op) (context : Context) → AllByRecursion IsWholeStatement items → Found IsWholeStatement (deciding_statement items what context)
+deciding_whole items what context all =
+    found_and_then IsWholeStatement (λ (decided : found.Found). found_statement items what decided.which) (decision items what context)
+    (λ (decided : found.Found). by_which_whole items what decided.which all)
 
 module _ (policies : Policies) (request : Request) (subject : Subject) (file : Object) (context : Context) (named : Whole subject.comm) (whole : IsWholeObject file) where
-  -- an access that was decided
-  decided_recorded : (what : Op) (entry : Loaded) (decided : found.Found)
-      → Found IsRecord (option_map (access_by policies request subject file what) (deciding (parts_of entry.serial (policy_in entry.text).items) what decided))
-  decided_recorded what entry decided =
-      let items : List Statement = (policy_in entry.text).items in
-      found_made IsWholeStatement IsRecord (access_by policies request subject file what) (deciding (parts_of entry.serial items) what decided)
-      (deciding_whole (parts_of entry.serial items) what decided.action decided.which (rules_whole items (policy_whole entry.text).1))
-      (λ (statement : Statement) h. access_record what (hook_of request) policies.enforce subject file (statement_text statement) named whole (statement_whole statement h))
-
   -- an access that is ruled by an entry's policy
   under_recorded : (what : Op) (entry : Loaded) → Found IsRecord (access_under policies request subject file context what entry)
   under_recorded what entry =
-      let record_of : found.Found → Option (List ℕ) =
-      λ decided. option_map (access_by policies request subject file what) (deciding (parts_of entry.serial (policy_in entry.text).items) what decided) in
-      found_and_then IsRecord record_of (decision (policy_in entry.text).items what context) (decided_recorded what entry)
+      let items : List Statement = (policy_in entry.text).items in
+      found_made IsWholeStatement IsRecord (access_by policies request subject file what) (deciding_statement items what context)
+      (deciding_whole items what context (policy_whole entry.text).1)
+      (λ (statement : Statement) h. access_record what (hook_of request) policies.enforce subject file (statement_text statement) named whole (statement_whole statement h))
 
   -- an access for an operation, if a policy is active
   for_recorded : (what : Option Op) (entry : Option Loaded) → Found IsRecord (access_for policies request subject file context what entry)

@@ -6,4 +6,7 @@
 
 mod laws;
 
-pub use laws::active_version_never_falls_along_lines;
+pub use laws::{
+    active_version_never_falls_along_lines, file_order_is_told_in_order,
+    transcripts_spell_their_order,
+};

@@ -1,5 +1,5 @@
-ghost use Rattle.std.specs.Prelude.{◌≡◌, ◌≤◌, Contains, drop, length, map, position, take, IfOk};
-ghost use Rattle.std.specs.Option.{option_copied};
+ghost use Rattle.std.specs.Prelude.{◌≡◌, ◌≤◌, Contains, drop, length, map, position, slice_get, take, IfOk};
+ghost use Rattle.std.specs.Option.{option_and_then, option_copied};
 ghost use Rattle.line_words.specs.Words.{is_text};
 ghost use Rattle.ipe_requests.specs.declared.script.FileLine.{FileLine};
 ghost use Rattle.ipe_requests.specs.declared.script.VolumeLine.{VolumeLine};
@@ -67,6 +67,21 @@ impl<'a> Declared<'a> {
     {
         let requests: &Requests = self.requests;
         requests.volumes.as_slice()
+    }
+
+    /// The texts, in the order of their lines.
+    pub fn texts(&self) -> &[TextLine]
+        ensures { result.now ≡ self.now.texts }
+    {
+        let requests: &Requests = self.requests;
+        requests.texts.as_slice()
+    }
+
+    /// The place of the text of an id among the texts.
+    pub fn text_place(&self, id: &[u8]) -> Option<usize>
+        ensures { option_and_then (slice_get self.now.texts) result ≡ text_of self.now id.now }
+    {
+        self.texts.get(id)
     }
 
     /// The text of an id.

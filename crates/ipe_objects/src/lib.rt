@@ -15,6 +15,7 @@ mod reading;
 mod seals;
 mod view;
 
+pub use declared::Declared;
 pub use images::{Images, ImagesError, load_images};
 pub use objects::Objects;
 pub use reading::read_file;

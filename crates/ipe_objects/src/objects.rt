@@ -60,7 +60,7 @@ impl<'a> Objects<'a> {
     }
 
     /// What is declared.
-    pub(crate) fn declared(&self) -> &Declared<'a>
+    pub fn declared(&self) -> &Declared<'a>
         ensures { result.now ≡ self.now.script }
     {
         &self.declared
