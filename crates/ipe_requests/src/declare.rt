@@ -1,18 +1,21 @@
-ghost use Rattle.std.specs.Prelude.{◌≡◌, ◌<◌, length, IsTrue, IfOk};
+ghost use Rattle.std.specs.Prelude.{◌≡◌, ◌<◌, length, IsTrue, IfOk, Ok};
 ghost use Rattle.line_words.specs.Lines.{seen, words_of};
 ghost use Rattle.ipe_requests.specs.TableWords.{table_of};
+ghost use Rattle.ipe_requests.specs.declared.line.Line.TheVariants as Declared;
 ghost use Rattle.ipe_requests.specs.declared.line.Shape.TheVariants as Shape;
 ghost use Rattle.ipe_requests.specs.Table.{cells};
-ghost use Rattle.ipe_requests.specs.Reading.{has_form, read_table, reads, rest};
+ghost use Rattle.ipe_requests.specs.Reading.{and_then, has_form, read_table, reads, rest};
 
-use crate::growing::Growing;
 use crate::known::{Known, OpenText};
 use crate::line::{Line, ScriptKind};
+use crate::open_list::OpenList;
+use crate::path::FilePath;
 use crate::script::{FileForm, FileLine, SealLine, VolumeLine};
 use crate::word::{
     name, new_file, new_text, new_volume, number, old_text, old_volume, unsealed_file, visible,
 };
 use dmv_volume::{Table, TableError, lines_are_whole_or_have_one_bad_word};
+use ipe_policy::PathName;
 use line_words::{Bytes, cut_at};
 use std::alloc::{AllocError, Global};
 
@@ -45,7 +48,7 @@ pub fn text(alloc: Global, known: &Known, words: &[&[u8]]) -> Result<Line, Scrip
         line: known.count,
         id,
         lines,
-        bytes: Growing::new(alloc),
+        bytes: OpenList::new(alloc),
     }))
 }
 
@@ -104,48 +107,97 @@ pub fn volume(
     })))
 }
 
+// The line of a file under this path.
+fn file_line(
+    alloc: Global,
+    known: &Known,
+    path: PathName,
+    form: FileForm,
+) -> Result<Result<Line, ScriptKind>, AllocError>
+    ensures { IfOk result (λ read. read ≡ Ok (Declared.File (record { line = known.now.count; path = path; form = form }))) }
+{
+    Ok(Ok(Line::File(FileLine {
+        line: known.count,
+        path: FilePath::new(alloc, path)?,
+        form,
+    })))
+}
+
 // `file PATH boot DEV INO ID`
-pub fn file_boot(known: &Known, words: &[&[u8]]) -> Result<Line, ScriptKind>
+pub fn file_boot(
+    alloc: Global,
+    known: &Known,
+    words: &[&[u8]],
+) -> Result<Result<Line, ScriptKind>, AllocError>
     requires { IsTrue (has_form (cells Shape.FileBoot) (seen words.now)) }
-    ensures { result ≡ reads known.now Shape.FileBoot (seen words.now) }
+    ensures { IfOk result (λ read. read ≡ reads known.now Shape.FileBoot (seen words.now)) }
 {
     let [_, path, _, dev, ino, text] = words else {
-        return Err(ScriptKind::Form);
+        return Ok(Err(ScriptKind::Form));
     };
-    let path = new_file(known, path)?;
-    let dev = name(known, dev)?;
-    let ino = number(known, ino, 0, u64::MAX)?;
-    let text = old_text(known, text)?;
-    Ok(Line::File(FileLine {
-        line: known.count,
-        path,
-        form: FileForm::Boot { dev, ino, text },
-    }))
+    let path = good!(new_file(known, path));
+    let dev = good!(name(known, dev));
+    let ino = good!(number(known, ino, 0, u64::MAX));
+    let text = good!(old_text(known, text));
+    let form = FileForm::Boot { dev, ino, text };
+    file_line(alloc, known, path, form)
 }
 
 // `file PATH volume ID FIRST SIZE INO`
-pub fn file_volume(known: &Known, words: &[&[u8]]) -> Result<Line, ScriptKind>
+pub fn file_volume(
+    alloc: Global,
+    known: &Known,
+    words: &[&[u8]],
+) -> Result<Result<Line, ScriptKind>, AllocError>
     requires { IsTrue (has_form (cells Shape.FileVolume) (seen words.now)) }
-    ensures { result ≡ reads known.now Shape.FileVolume (seen words.now) }
+    ensures { IfOk result (λ read. read ≡ reads known.now Shape.FileVolume (seen words.now)) }
 {
     let [_, path, _, volume, first, size, ino] = words else {
-        return Err(ScriptKind::Form);
+        return Ok(Err(ScriptKind::Form));
     };
-    let path = new_file(known, path)?;
-    let volume = old_volume(known, volume)?;
-    let first = number(known, first, 0, 4095)?;
-    let size = number(known, size, 0, MOST_SIZE)?;
-    let ino = number(known, ino, 0, u64::MAX)?;
-    Ok(Line::File(FileLine {
-        line: known.count,
+    let path = good!(new_file(known, path));
+    let volume = good!(old_volume(known, volume));
+    let first = good!(number(known, first, 0, 4095));
+    let size = good!(number(known, size, 0, MOST_SIZE));
+    let ino = good!(number(known, ino, 0, u64::MAX));
+    let form = FileForm::Volume {
+        volume,
+        first,
+        size,
+        ino,
+    };
+    file_line(alloc, known, path, form)
+}
+
+// What the words of a plain file say: its path, and where its bytes are.
+fn plain(
+    alloc: Global,
+    known: &Known,
+    words: &[&[u8]],
+) -> Result<Result<(PathName, FileForm), ScriptKind>, AllocError>
+    requires { IsTrue (has_form (cells Shape.FilePlain) (seen words.now)) }
+    ensures { IfOk result (λ read. reads known.now Shape.FilePlain (seen words.now)
+        ≡ and_then (λ said. Ok (Declared.File (record { line = known.now.count; path = said.0; form = said.1 }))) read) }
+{
+    let [_, path, _, device, at, size, dev, ino] = words else {
+        return Ok(Err(ScriptKind::Form));
+    };
+    let path = good!(new_file(known, path));
+    let device = good!(visible(alloc, known, device, MOST_DEVICE_NAME)?);
+    let at = good!(number(known, at, 0, MOST_SIZE));
+    let size = good!(number(known, size, 0, MOST_SIZE));
+    let dev = good!(name(known, dev));
+    let ino = good!(number(known, ino, 0, u64::MAX));
+    Ok(Ok((
         path,
-        form: FileForm::Volume {
-            volume,
-            first,
+        FileForm::Plain {
+            device,
+            at,
             size,
+            dev,
             ino,
         },
-    }))
+    )))
 }
 
 // `file PATH plain DEVICE AT SIZE DEV INO`
@@ -157,26 +209,8 @@ pub fn file_plain(
     requires { IsTrue (has_form (cells Shape.FilePlain) (seen words.now)) }
     ensures { IfOk result (λ read. read ≡ reads known.now Shape.FilePlain (seen words.now)) }
 {
-    let [_, path, _, device, at, size, dev, ino] = words else {
-        return Ok(Err(ScriptKind::Form));
-    };
-    let path = good!(new_file(known, path));
-    let device = good!(visible(alloc, known, device, MOST_DEVICE_NAME)?);
-    let at = good!(number(known, at, 0, MOST_SIZE));
-    let size = good!(number(known, size, 0, MOST_SIZE));
-    let dev = good!(name(known, dev));
-    let ino = good!(number(known, ino, 0, u64::MAX));
-    Ok(Ok(Line::File(FileLine {
-        line: known.count,
-        path,
-        form: FileForm::Plain {
-            device,
-            at,
-            size,
-            dev,
-            ino,
-        },
-    })))
+    let (path, form) = good!(plain(alloc, known, words)?);
+    file_line(alloc, known, path, form)
 }
 
 // `seal PATH DEVICE AT`

@@ -1,46 +1,29 @@
-ghost use Rattle.std.specs.Prelude.{◌≡◌, ◌≤◌, ◌+◌, ◌*◌, [], None, length, nat_le, nat_lt, position, OnOk};
+ghost use Rattle.std.specs.Prelude.{◌≡◌, [], None, position, IfOk, OnOk};
 ghost use Rattle.std.specs.Option.{option_copied};
 ghost use Rattle.line_words.specs.Words.{is_text};
-ghost use Rattle.ipe_requests.specs.Known.{gives_text, item_of, nothing, reads_file, with_device};
+ghost use Rattle.ipe_requests.specs.Known.{item_of, nothing, with_device};
 ghost use Rattle.ipe_requests.specs.declared.line.Line.TheVariants as Line;
 
-use crate::growing::Growing;
+mod counts;
+mod limits;
+
 use crate::line::{Line, Section};
+use crate::open_list::OpenList;
+use crate::path::FilePath;
 use crate::script::{
-    FileForm, FileLine, MarkLine, Phase, PhaseLine, SealLine, TextLine, VolumeLine, WriteContent,
+    FileForm, FileLine, MarkLine, Phase, PhaseLine, SealLine, TextLine, VolumeLine,
 };
-use dmv_volume::Table;
-use ipe_policy::{DevName, PathName, Request};
+use ipe_policy::{DevName, PathName};
 use line_words::{Items, WordIndex};
 use std::alloc::{AllocError, Global};
 
 const LEAST_READ: u64 = 4096;
 
-const MOST_TEXTS: usize = 256;
-
-const MOST_VOLUMES: usize = 64;
-
-const MOST_FILES: usize = 1024;
-
-const MOST_DEVICES: usize = 8;
-
-const MOST_MARKS: usize = 4096;
-
-const MOST_PHASES: usize = 1000;
-
-const MOST_COMMANDS: u64 = 100_000;
-
-const MOST_HOOKS: u64 = 200_000;
-
-const MOST_WORK: u64 = 1 << 30;
-
-const MOST_READS: u64 = 1 << 26;
-
 /// Things that are declared, each found by its name in one look-up.
 #[derive(Drop)]
 pub struct Declared<T> {
     pub names: WordIndex,
-    pub items: Growing<T>,
+    pub items: OpenList<T>,
 }
 
 /// A text whose lines are still to come, with those that have come.
@@ -49,7 +32,7 @@ pub struct OpenText {
     pub line: u32,
     pub id: DevName,
     pub lines: u32,
-    pub bytes: Growing<u8>,
+    pub bytes: OpenList<u8>,
 }
 
 /// What the lines before a line come to. `due` counts the lines of the open text that are still to come. `count` is the
@@ -65,10 +48,10 @@ pub struct Known {
     pub volumes: Declared<VolumeLine>,
     pub files: Declared<FileLine>,
     pub seals: Declared<SealLine>,
-    pub marks: Growing<MarkLine>,
-    pub phases: Growing<Phase>,
+    pub marks: OpenList<MarkLine>,
+    pub phases: OpenList<Phase>,
     pub opened: Option<u32>,
-    pub asked: Growing<PhaseLine>,
+    pub asked: OpenList<PhaseLine>,
     pub devices: WordIndex,
     pub commands: u64,
     pub hooks: u64,
@@ -92,7 +75,7 @@ impl<T: Drop> Declared<T> {
     {
         Declared {
             names: WordIndex::new(alloc),
-            items: Growing::new(alloc),
+            items: OpenList::new(alloc),
         }
     }
 
@@ -113,7 +96,7 @@ impl<T: Drop> Declared<T> {
 }
 
 impl Known {
-    ghost use Rattle.ipe_requests.specs.Known.{at_first, with_open, with_raw, with_text, phases_of, text_size, size_of, file_size, hook_work, write_work, read_size, with_counts, with_asked, with_form, with_line, has_few_lines, asks_little, is_within_limits, ends_beyond, is_out_of_range, IsNew};
+    ghost use Rattle.ipe_requests.specs.Known.{at_first, with_open, with_raw, with_text, phases_of, with_asked, with_form, with_line, IsNew};
 
     /// Before the first line.
     pub fn at_first(alloc: Global) -> Known
@@ -129,10 +112,10 @@ impl Known {
             volumes: Declared::new(alloc),
             files: Declared::new(alloc),
             seals: Declared::new(alloc),
-            marks: Growing::new(alloc),
-            phases: Growing::new(alloc),
+            marks: OpenList::new(alloc),
+            phases: OpenList::new(alloc),
             opened: None,
-            asked: Growing::new(alloc),
+            asked: OpenList::new(alloc),
             devices: WordIndex::new(alloc),
             commands: 0,
             hooks: 0,
@@ -198,7 +181,7 @@ impl Known {
     pub fn close_phase(&mut self, alloc: Global) -> Result<(), AllocError>
         ensures { OnOk result (self.new ≡ record self.old { phases = phases_of self.old; opened = None; asked = [] }) }
     {
-        let lines = std::mem::replace(&mut self.asked, Growing::new(alloc));
+        let lines = std::mem::replace(&mut self.asked, OpenList::new(alloc));
         if let Some(line) = self.opened {
             self.opened = None;
             let lines = lines.into_items();
@@ -207,76 +190,18 @@ impl Known {
         Ok(())
     }
 
-    fn text_size(&self, id: &DevName) -> u64
-        ensures { result ≡ text_size self.now id.now }
+    /// The path of a declared file that stands in this place. It is the file's own, so that a hook takes no memory for it.
+    pub fn path_at(
+        &self,
+        alloc: Global,
+        place: usize,
+        name: PathName,
+    ) -> Result<FilePath, AllocError>
+        ensures { IfOk result (λ path. path ≡ name) }
     {
-        match self.texts.get(id.as_slice()) {
-            Some(text) => text.bytes.as_slice().len() as u64,
-            None => 0,
-        }
-    }
-
-    fn size_of(&self, form: &FileForm) -> u64
-        ensures { result ≡ size_of self.now form.now }
-    {
-        match form {
-            FileForm::Boot { text, .. } => self.text_size(text),
-            FileForm::Volume { size, .. } | FileForm::Plain { size, .. } => *size,
-        }
-    }
-
-    fn file_size(&self, path: &PathName) -> u64
-        ensures { result ≡ file_size self.now path.now }
-    {
-        match self.files.get(path.as_slice()) {
-            Some(file) => self.size_of(&file.form),
-            None => 0,
-        }
-    }
-
-    // The bytes of a text that is written.
-    fn write_work(&self, content: &WriteContent) -> u64
-        ensures { result ≡ write_work self.now content.now }
-    {
-        match content {
-            WriteContent::Text(id) => self.text_size(id),
-            WriteContent::Echo(_) | WriteContent::Hex(_) => 0,
-        }
-    }
-
-    // The bytes that a hook reads.
-    fn hook_work(&self, request: Request, path: &Option<PathName>) -> u64
-        ensures { result ≡ hook_work self.now request path.now }
-    {
-        match path {
-            Some(path) if reads_file(request) => self.file_size(path),
-            _ => 0,
-        }
-    }
-
-    // The bytes that a read of a node may give.
-    fn read_size(&self, node: &[u8]) -> u64
-        ensures { result ≡ read_size self.now node.now }
-    {
-        if gives_text(node) { self.longest } else { 0 }
-    }
-
-    fn count_asked(&mut self, what: &PhaseLine)
-        ensures { self.new ≡ with_counts self.old what.now }
-    {
-        match what {
-            PhaseLine::Write { content, .. } => {
-                self.work = self.work.saturating_add(self.write_work(content));
-                self.commands = self.commands.saturating_add(1);
-            }
-            PhaseLine::Read { node, .. } => {
-                self.reads = self.reads.saturating_add(self.read_size(node.as_slice()));
-                self.commands = self.commands.saturating_add(1);
-            }
-            PhaseLine::Hook { request, path, .. } => {
-                self.work = self.work.saturating_add(self.hook_work(*request, path));
-                self.hooks = self.hooks.saturating_add(1);
-            }
+        match self.files.items.as_slice().get(place) {
+            Some(file) if file.path.as_slice() == name.as_slice() => file.path.share(),
+            _ => FilePath::new(alloc, name),
         }
     }
 
@@ -383,91 +308,4 @@ impl Known {
             Line::End => self.end(alloc),
         }
     }
-
-    fn has_few_phases(&self) -> bool
-        ensures { result ≡ nat_le (length (phases_of self.now)) 1000 }
-    {
-        match self.opened {
-            Some(_) => self.phases.len() < MOST_PHASES,
-            None => self.phases.len() <= MOST_PHASES,
-        }
-    }
-
-    fn has_few_lines(&self) -> bool
-        ensures { result ≡ has_few_lines self.now }
-    {
-        self.texts.names.len() <= MOST_TEXTS
-            && self.volumes.names.len() <= MOST_VOLUMES
-            && self.files.names.len() <= MOST_FILES
-            && self.devices.len() <= MOST_DEVICES
-            && self.marks.len() <= MOST_MARKS
-            && self.has_few_phases()
-    }
-
-    fn asks_little(&self) -> bool
-        ensures { result ≡ asks_little self.now }
-    {
-        self.commands <= MOST_COMMANDS
-            && self.hooks <= MOST_HOOKS
-            && self.work <= MOST_WORK
-            && self.reads <= MOST_READS
-    }
-
-    /// Whether no limit is exceeded.
-    pub fn is_within_limits(&self) -> bool
-        ensures { result ≡ is_within_limits self.now }
-    {
-        self.has_few_lines() && self.asks_little()
-    }
-
-    fn ends_beyond(&self, form: &FileForm) -> bool
-        ensures { result ≡ ends_beyond self.now form.now }
-    {
-        let FileForm::Volume {
-            volume,
-            first,
-            size,
-            ..
-        } = form
-        else {
-            return false;
-        };
-        match self.volumes.get(volume.as_slice()) {
-            Some(named) => is_beyond(&named.table, *first, *size),
-            None => false,
-        }
-    }
-
-    /// Whether a line's range ends beyond what it is a range of.
-    pub fn is_out_of_range(&self, line: &Line) -> bool
-        ensures { result ≡ is_out_of_range self.now line.now }
-    {
-        match line {
-            Line::File(file) => self.ends_beyond(&file.form),
-            _ => false,
-        }
-    }
-}
-
-// So many bytes from a block on end beyond the data blocks.
-fn is_beyond(table: &Table, first: u64, size: u64) -> bool
-    ensures { result ≡ nat_lt (table.now.blocks * table.now.block_size) (first * table.now.block_size + size) }
-{
-    let block_size = u64::from(table.block_size());
-    let end = first.saturating_mul(block_size).saturating_add(size);
-    table.blocks() * block_size < end
-}
-
-// A program check and a kernel read read the file.
-fn reads_file(request: Request) -> bool
-    ensures { result ≡ reads_file request }
-{
-    matches!(request, Request::ExecCheck | Request::KernelRead(_))
-}
-
-// The bytes of such a node are a policy's text.
-fn gives_text(node: &[u8]) -> bool
-    ensures { result ≡ gives_text node.now }
-{
-    node.ends_with(b"/pkcs7") || node.ends_with(b"/policy")
 }

@@ -13,12 +13,13 @@ macro_rules! good {
 
 mod command;
 mod declare;
-mod growing;
 mod hook;
 mod known;
 mod law;
 mod line;
 mod mark;
+mod open_list;
+mod path;
 mod print;
 mod reader;
 mod requests;
@@ -31,6 +32,7 @@ pub use law::{
     requests_keep_their_rules, words_have_one_shape,
 };
 pub use line::ScriptKind;
+pub use path::FilePath;
 pub use print::print_requests;
 pub use reader::{ScriptError, parse_requests};
 pub use requests::Requests;

@@ -1,3 +1,4 @@
+use crate::path::FilePath;
 use dmv_volume::Table;
 use ipe_policy::{DevName, DigestBytes, PathName, Request, Subject};
 use line_words::{Bytes, Items};
@@ -48,7 +49,7 @@ pub enum FileForm {
 #[derive(Debug, Drop)]
 pub struct FileLine {
     pub line: u32,
-    pub path: PathName,
+    pub path: FilePath,
     pub form: FileForm,
 }
 
@@ -122,7 +123,7 @@ pub enum PhaseLine {
         worker: u32,
         request: Request,
         subject: Subject,
-        path: Option<PathName>,
+        path: Option<FilePath>,
     },
 }
 

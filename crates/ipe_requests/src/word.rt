@@ -7,6 +7,7 @@ ghost use Rattle.ipe_requests.specs.Reading.{read_word};
 
 use crate::known::Known;
 use crate::line::ScriptKind;
+use crate::path::FilePath;
 use crate::script::{MarkPurpose, MarkVerdict};
 use ipe_policy::{Comm, DevName, DigestBytes, Kind, PathName};
 use line_words::{Bytes, decimal, hex_bytes, is_hex, is_visible_word};
@@ -283,28 +284,40 @@ pub fn new_file(known: &Known, word: &[u8]) -> Result<PathName, ScriptKind>
 }
 
 // The path of a file that is declared before.
-pub fn old_file(known: &Known, word: &[u8]) -> Result<PathName, ScriptKind>
-    ensures { result ≡ read_word known.now (Old a_file) word.now }
+pub fn old_file(
+    alloc: Global,
+    known: &Known,
+    word: &[u8],
+) -> Result<Result<FilePath, ScriptKind>, AllocError>
+    ensures { IfOk result (λ read. read ≡ read_word known.now (Old a_file) word.now) }
 {
-    let path = PathName::read(word).ok_or(ScriptKind::Name)?;
-    if known.files.names.place_of(word).is_none() {
-        return Err(ScriptKind::Unknown);
+    let Some(path) = PathName::read(word) else {
+        return Ok(Err(ScriptKind::Name));
+    };
+    match known.files.names.place_of(word) {
+        Some(place) => Ok(Ok(known.path_at(alloc, place, path)?)),
+        None => Ok(Err(ScriptKind::Unknown)),
     }
-    Ok(path)
 }
 
 // The path of a file that is declared before, or a dash for none.
-pub fn old_file_or_dash(known: &Known, word: &[u8]) -> Result<Option<PathName>, ScriptKind>
-    ensures { result ≡ read_word known.now OldOrDash word.now }
+pub fn old_file_or_dash(
+    alloc: Global,
+    known: &Known,
+    word: &[u8],
+) -> Result<Result<Option<FilePath>, ScriptKind>, AllocError>
+    ensures { IfOk result (λ read. read ≡ read_word known.now OldOrDash word.now) }
 {
     if word == b"-".as_slice() {
-        return Ok(None);
+        return Ok(Ok(None));
     }
-    let path = PathName::read(word).ok_or(ScriptKind::Name)?;
-    if known.files.names.place_of(word).is_none() {
-        return Err(ScriptKind::Unknown);
+    let Some(path) = PathName::read(word) else {
+        return Ok(Err(ScriptKind::Name));
+    };
+    match known.files.names.place_of(word) {
+        Some(place) => Ok(Ok(Some(known.path_at(alloc, place, path)?))),
+        None => Ok(Err(ScriptKind::Unknown)),
     }
-    Ok(Some(path))
 }
 
 // The path of a declared file that isn't sealed before.

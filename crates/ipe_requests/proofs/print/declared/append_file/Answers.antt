@@ -1,5 +1,5 @@
 use Rattle.std.proofs.Common.{◌≡◌}
-use Rattle.ipe_requests.proofs.print.append_file.Goals as goal
+use Rattle.ipe_requests.proofs.print.declared.append_file.Goals as goal
 
 pub returns-in-Boot : goal.returns-in-Boot
 returns-in-Boot c = rw c.in-Boot.is c.append_boot.ensures

@@ -1,5 +1,5 @@
 use Rattle.std.proofs.Common.{◌≡◌}
-use Rattle.ipe_requests.proofs.print.append_write.Goals as goal
+use Rattle.ipe_requests.proofs.print.asked.append_write.Goals as goal
 
 pub returns-in-Text : goal.returns-in-Text
 returns-in-Text c = rw c.in-Text.is c.append_write_text.ensures

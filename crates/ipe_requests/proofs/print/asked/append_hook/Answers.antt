@@ -1,5 +1,5 @@
 use Rattle.std.proofs.Common.{◌≡◌}
-use Rattle.ipe_requests.proofs.print.append_hook.Goals as goal
+use Rattle.ipe_requests.proofs.print.asked.append_hook.Goals as goal
 
 pub returns-in-ExecCheck : goal.returns-in-ExecCheck
 returns-in-ExecCheck c = rw c.in-ExecCheck.is c.append_exec.ensures

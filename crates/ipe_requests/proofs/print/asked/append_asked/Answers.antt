@@ -1,5 +1,5 @@
 use Rattle.std.proofs.Common.{◌≡◌}
-use Rattle.ipe_requests.proofs.print.append_asked.Goals as goal
+use Rattle.ipe_requests.proofs.print.asked.append_asked.Goals as goal
 
 pub returns-in-Write : goal.returns-in-Write
 returns-in-Write c = rw c.in-Write.is c.append_write.ensures

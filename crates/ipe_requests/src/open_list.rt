@@ -7,11 +7,11 @@ use std::marker::Model;
 
 /// A list that grows at its end, which contracts see as the list of its items.
 #[derive(Debug, Drop)]
-pub struct Growing<T> {
+pub struct OpenList<T> {
     items: Vec<T>,
 }
 
-impl<T> Model for Growing<T> {
+impl<T> Model for OpenList<T> {
     ghost use Rattle.std.specs.Prelude.{List};
 
     ghost Value = { List T };
@@ -19,11 +19,11 @@ impl<T> Model for Growing<T> {
     ghost view = { λ list. list.items.items };
 }
 
-impl<T: Drop> Growing<T> {
+impl<T: Drop> OpenList<T> {
     pub fn new(alloc: Global) -> Self
         ensures { result ≡ [] }
     {
-        Growing {
+        OpenList {
             items: Vec::new(alloc),
         }
     }
@@ -50,12 +50,12 @@ impl<T: Drop> Growing<T> {
     pub fn into_items(self) -> Items<T>
         ensures { result ≡ self }
     {
-        let Growing { items } = self;
+        let OpenList { items } = self;
         Items::from_vec(items)
     }
 }
 
-impl Growing<u8> {
+impl OpenList<u8> {
     // Appends a line with its line feed.
     pub fn add_line(&mut self, line: &[u8]) -> Result<(), AllocError>
         ensures { OnOk result (self.new ≡ self.old ++ line.now ++ 10 ∷ []) }
