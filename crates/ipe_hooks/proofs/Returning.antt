@@ -14,8 +14,8 @@ use Rattle.ipe_gate_rule.specs.History.{GoesOnFrom, active_slot, claims_by, cont
 use Rattle.ipe_gate_rule.specs.Owners.{own_events}
 use Rattle.ipe_gate_rule.specs.Legal.{Legal}
 use Rattle.ipe_gate_rule.specs.Places.{places_of}
-use Rattle.ipe_gate_rule.specs.Regions.{region}
-use Rattle.ipe_gate_rule.proofs.Images.{active_image, image_told}
+use Rattle.ipe_gate_rule.specs.Regions.{BeginsWithImage, begins_with_image, region, words_at}
+use Rattle.ipe_gate_rule.specs.Laws.{ActiveSlotHasImage}
 use Rattle.ipe_gate_rule.proofs.Frees.{later_chain}
 use Rattle.ipe_gate.specs.declared.pass.Pass.{Pass}
 use Rattle.ipe_gate.specs.declared.pass.Claimed.{Claimed}
@@ -62,12 +62,16 @@ words_claimed p q c k pos =
     (λ i. region_of (claim_slot p q c k i) (k.step.seen_is i))
     ∙ region_some (active_slot k.before) (Claim p.number ∷ k.before) pos
 
+image_told : (f : ℕ → ℕ) → BeginsWithImage f → IsTrue (is_some (image_in (words_at f)))
+unfolding begins_with_image
+image_told f begins = begins
+
 -- they begin with an image
-pub image_claimed : (p q : Pass) (c : Claimed) (k : IsClaim p q c) → 0 < active_slot k.before
+pub image_claimed : ActiveSlotHasImage → (p q : Pass) (c : Claimed) (k : IsClaim p q c) → 0 < active_slot k.before
     → IsTrue (is_some (image_in (words_held q)))
-image_claimed p q c k pos =
+image_claimed law p q c k pos =
     subst (λ ws. IsTrue (is_some (image_in ws))) (sym (words_claimed p q c k pos))
-    (image_told (λ i. content (active_slot k.before) i k.before) (active_image k.before k.step.legal.1 pos))
+    (image_told (λ i. content (active_slot k.before) i k.before) (law k.before k.step.legal.1 pos))
 
 pub decided : (slot : ℕ) (h : List Event) (op : Op) (context : Context) (hit : Hit) → 0 < slot
     → IsTrue (is_some (image_in (region slot h)))
@@ -94,15 +98,15 @@ same_place : (p q : Pass) (c : Claimed) (k : IsClaim p q c) →
 same_place p q c k = k.places ∙ (λ i. (k.tells.epoch i, k.tells.count i) ∷ places_of p.number (seen p))
 
 -- a hook where a slot was active: its claim, and then its return
-pub hooked_some : (p m q : Pass) (c : Claimed) (op : Op) (context : Context) (hit : Hit) (ruling : Ruling)
+pub hooked_some : ActiveSlotHasImage → (p m q : Pass) (c : Claimed) (op : Op) (context : Context) (hit : Hit) (ruling : Ruling)
     → IsClaim p m c → IsReturn m q → 0 < slot_number c.slot
     → ((parts : ImageParts) → image_in (words_held m) ≡ Some parts → IsAnswer parts op context hit)
     → ruling ≡ ruling_on c.epoch c.count c.enforce c.success (Some hit) → IsHook p q op context ruling
-hooked_some p m q c op context hit ruling k r some answer is =
+hooked_some law p m q c op context hit ruling k r some answer is =
     let pos : 0 < active_slot k.before = subst (λ z. 0 < z) k.tells.slot some in
     let hit_is : ruling.hit ≡ Some hit = ap (λ (t : Ruling). t.hit) is in
     let words = words_claimed p m c k pos in
-    let begins = subst (λ ws. IsTrue (is_some (image_in ws))) words (image_claimed p m c k pos) in
+    let begins = subst (λ ws. IsTrue (is_some (image_in ws))) words (image_claimed law p m c k pos) in
     let slot = active_slot k.before in
     let decision : IsDecision slot k.before op context (Some hit) = decided slot k.before op context hit pos begins
     (λ parts e. answer parts (ap image_in words ∙ e)) in

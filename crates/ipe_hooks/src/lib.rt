@@ -4,8 +4,8 @@
 //! by another. It takes no lock and no memory, and waits for nobody.
 #![tactic(auto)]
 
-mod hooking;
 mod law;
+mod ruling;
 
-pub use hooking::hook;
 pub use law::rules_as_the_machine;
+pub use ruling::hook;

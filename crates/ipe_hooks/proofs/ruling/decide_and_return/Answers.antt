@@ -1,5 +1,5 @@
 use Rattle.ipe_hooks.proofs.Returning.{return_after}
-use Rattle.ipe_hooks.proofs.hooking.decide_and_return.Goals as goal
+use Rattle.ipe_hooks.proofs.ruling.decide_and_return.Goals as goal
 
 pub returns-clause-returned : goal.returns-clause-returned
 returns-clause-returned c =

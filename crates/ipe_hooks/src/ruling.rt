@@ -10,6 +10,7 @@ ghost use Rattle.ipe_hooks.specs.Rulings.{found_in, ruling_on};
 ghost use Rattle.ipe_hooks.specs.Hooks.{IsHook, IsHookFor};
 
 use ipe_gate::{Claimed, Pass};
+use ipe_gate_rule::active_slot_has_image;
 use ipe_image::{Hit, Place, Ruling, decide_words};
 use ipe_policy::{Action, Context, Op, Request};
 
@@ -45,6 +46,7 @@ fn evaluate(pass: &mut Pass, op: Op, context: &Context) -> Ruling
     if claimed.slot.is_none() {
         return rule(&claimed, None);
     }
+    active_slot_has_image();
     let hit = decide_and_return(pass, op, context);
     rule(&claimed, Some(hit))
 }
