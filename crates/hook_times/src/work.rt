@@ -1,4 +1,4 @@
-ghost use Rattle.std.specs.Prelude.{◌≡◌, ◌≤◌, length};
+ghost use Rattle.std.specs.Prelude.{◌≡◌, ◌≤◌, IfOk, length};
 
 use anyhow::{Context as _, Result};
 use crossbeam_utils::atomic::AtomicCell;
@@ -33,8 +33,10 @@ pub fn policy_of(alloc: Global, rules: u32) -> Result<Policy> {
     Ok(parse(alloc, text.as_slice())?)
 }
 
-/// The passes of a gate whose active policy is this one.
-pub fn open_gate(alloc: Global, policy: &Policy, passes: u32) -> Result<Vec<Pass>> {
+/// So many passes of a gate whose active policy is this one.
+pub fn open_gate(alloc: Global, policy: &Policy, passes: u32) -> Result<Vec<Pass>>
+    ensures { IfOk result (λ made. length made.items ≡ passes) }
+{
     if passes == 0 || passes > 30 {
         None::<()>.context("1 to 30 threads")?;
     }
