@@ -67,21 +67,21 @@ class Phases:
 
     # Commands.
 
-    def text(self, table, verb):
-        """The name and the size of the text that a command writes."""
+    def policy(self, table, verb):
+        """The name of the policy's text that a command is about."""
         name = table.text(verb, needed=True)
         if name not in self.reader.appliance.names:
             raise table.mistake(verb, f"there is no policy {name!r} in policies")
-        return name, len(self.reader.appliance.texts[name])
+        return name
 
-    def folder(self, table, verb):
-        """The folder of nodes of the policy whose text is named."""
-        name, _ = self.text(table, verb)
+    def folder(self, table, verb, name):
+        """The folder of nodes of the policy whose text has a name."""
         if not self.reader.appliance.names[name]:
             raise table.mistake(verb, f"the first line of policies.{name} has no policy_name=; write the node itself by `write`")
         return f"policies/{self.reader.appliance.names[name]}"
 
     def command(self, table, verb, times):
+        """The line of a command, and how many bytes of a text it writes."""
         who = table.text("by", default="admin")
         if who not in ("admin", "guest"):
             raise table.mistake("by", f"{who!r} is to be admin or guest")
@@ -89,37 +89,29 @@ class Phases:
             if who == "guest":
                 raise table.mistake("by", "a read needs no right: leave it out")
             return [self.read_back(table, times)], 0
-        content, size = self.content(table, verb)
-        return [f"{who} write {self.node(table, verb)} {content}"], size
-
-    def node(self, table, verb):
-        if verb == "write":
-            return table.text("write", needed=True, rule=rules.NODE)
-        if verb == "load":
-            return "new_policy"
         if verb in ("enforce", "success_audit"):
-            return verb
-        node = f"{self.folder(table, verb)}/{'active' if verb == 'activate' else verb}"
+            return [f"{who} write {verb} echo {int(table.flag(verb, needed=True))}"], 0
+        if verb == "write":
+            node, content, name = table.text("write", needed=True, rule=rules.NODE), *self.content(table)
+        else:
+            name = self.policy(table, verb)
+            content = f"text {name}" if verb in ("load", "update") else "echo 1"
+            last = "active" if verb == "activate" else verb
+            node = "new_policy" if verb == "load" else f"{self.folder(table, verb, name)}/{last}"
         if not rules.NODE.fullmatch(node):
             raise table.mistake(verb, f"the node {node!r} is to be {rules.RULES[rules.NODE]}")
-        return node
+        size = len(self.reader.appliance.texts[name]) if content.startswith("text ") else 0
+        return [f"{who} write {node} {content}"], size
 
-    def content(self, table, verb):
-        """What a command writes, and how many bytes of a text it is."""
-        if verb in ("load", "update"):
-            name, size = self.text(table, verb)
-            return f"text {name}", size
-        if verb in ("enforce", "success_audit"):
-            return f"echo {int(table.flag(verb, needed=True))}", 0
-        if verb in ("activate", "delete"):
-            return "echo 1", 0
+    def content(self, table):
+        """What `write` writes, and the name of the text where it is one."""
         given = [name for name in ("text", "echo", "hex") if name in table]
         if len(given) != 1:
             raise table.mistake("write", "needs one of text, echo and hex beside it")
         if given == ["text"]:
-            name, size = self.text(table, "text")
-            return f"text {name}", size
-        return f"{given[0]} {table.text(given[0], rule=rules.WORD if given == ['echo'] else rules.HEX)}", 0
+            name = self.policy(table, "text")
+            return f"text {name}", name
+        return f"{given[0]} {table.text(given[0], rule=rules.WORD if given == ['echo'] else rules.HEX)}", None
 
     def read_back(self, table, times):
         node = table.text("read", needed=True, rule=rules.NODE)

@@ -1,0 +1,251 @@
+"""The picture of a run: where each mark, band and bar stands. All lengths are in the picture's own units, pixels at its full size."""
+
+from collections import Counter
+from dataclasses import dataclass, field
+
+from .run import STATES
+
+# A column is as wide as is needed to fill FULL, within these bounds.
+COLUMN = 22
+WIDEST = 40
+FULL = 1_000
+CHARACTER = 6.8
+PADDING = 14
+HEAD = {"phase": 0, "policy": 22, "epoch": 46}
+ROWS_TOP = 74
+ROW = 34
+FOOT = 8
+# From this many entries on, hooks are drawn as densities.
+DENSE = 500
+BIN = 6
+BINS = 180
+LANE = 18
+LETTERS = {"load": "L", "activate": "A", "update": "U", "delete": "D", "enforce": "E", "success_audit": "S", "read": "R",
+           "write": "W"}
+
+
+@dataclass(frozen=True)
+class Span:
+    """A stretch of the picture with a text: a phase, the time of an active policy, an epoch."""
+
+    x: float
+    width: float
+    text: str
+    title: str
+    line: int | None
+    even: bool
+
+    @property
+    def fits(self):
+        return len(self.text) * CHARACTER + 6 <= self.width
+
+
+@dataclass(frozen=True)
+class Mark:
+    x: float
+    y: float
+    state: str
+    letter: str
+    title: str
+    line: int
+
+
+@dataclass
+class Lane:
+    """The bars of one actor and one state: `bars` are x, y, width and height."""
+
+    state: str
+    y: float
+    bars: list
+
+
+@dataclass
+class Cell:
+    """A part of a row of densities that links to its first line."""
+
+    x: float
+    title: str
+    line: int
+
+
+@dataclass
+class Row:
+    actor: str
+    label: str
+    y: float
+    height: float
+    lanes: list = field(default_factory=list)
+    cells: list = field(default_factory=list)
+
+
+@dataclass
+class Picture:
+    width: float
+    height: float
+    dense: bool
+    phases: list
+    policies: list
+    epochs: list
+    rows: list
+    marks: list
+
+
+def name_of(actor):
+    return {"admin": "administrator", "guest": "guest"}.get(actor, "worker " + actor[1:])
+
+
+def actors(steps):
+    """Those that do something, administrators first and workers by number."""
+    def order(actor):
+        return (0, actor) if actor in ("admin", "guest") else (1, int(actor[1:]))
+    return sorted({step.action.who for step in steps}, key=lambda actor: (order(actor)[0], str(order(actor)[1]).zfill(9)))
+
+
+def switches(epoch):
+    words = [] if epoch.enforce else ["enforce off"]
+    return words + (["success_audit on"] if epoch.success_audit else [])
+
+
+def groups(steps, key):
+    """The runs of steps with one key: the first step of each and how far it goes, as indices."""
+    first = 0
+    for at in range(1, len(steps) + 1):
+        if at == len(steps) or key(steps[at]) != key(steps[first]):
+            yield steps[first], first, at
+            first = at
+
+
+def headings(run):
+    """For each kind of band: the key by which steps belong to one, and its text, title and line."""
+    def phase(step):
+        number = step.entry.phase
+        return f"phase {number}", f"phase {number}", run.requests.phases[number - 1]
+
+    def policy(step):
+        known = step.epoch.policy
+        return (known.title, f"active: {known.title}, policy {known.serial}", known.line) if known else \
+            ("no active policy", "no active policy: everything is allowed", None)
+
+    def epoch(step):
+        words = ", ".join([f"epoch {step.epoch.number}", *switches(step.epoch)])
+        return words, words, step.epoch.line
+
+    return {
+        "phase": (lambda step: step.entry.phase, phase),
+        "policy": (lambda step: step.epoch.policy.serial if step.epoch.policy else 0, policy),
+        "epoch": (lambda step: step.epoch.number, epoch),
+    }
+
+
+def widths(run):
+    """The width of the column of each step, so that the text of each band finds room."""
+    found = [max(COLUMN, min(WIDEST, FULL / len(run.steps)))] * len(run.steps)
+    for key, words in headings(run).values():
+        for step, first, last in groups(run.steps, key):
+            needed = len(words(step)[0]) * CHARACTER + PADDING
+            have = sum(found[first:last])
+            if have < needed:
+                for at in range(first, last):
+                    found[at] *= needed / have
+    return found
+
+
+def bands(run, edges):
+    """The bands of each kind, from the edges of the columns."""
+    for key, words in headings(run).values():
+        spans = []
+        for number, (step, first, last) in enumerate(groups(run.steps, key)):
+            text, title, line = words(step)
+            spans.append(Span(edges[first], edges[last] - edges[first], text, title, line, number % 2 == 0))
+        yield spans
+
+
+def merged(spans, least):
+    """The bands with narrow neighbours taken together, so that each can be seen; their title counts them."""
+    found, held = [], []
+    for span in spans:
+        held.append(span)
+        width = span.x + span.width - held[0].x
+        if width >= least or span is spans[-1]:
+            one = held[0]
+            title = one.title if len(held) == 1 else f"{len(held):,} from {one.title} to {span.title}"
+            text = one.text if len(held) == 1 else f"{len(held):,}: {one.text} …"
+            found.append(Span(one.x, width, text, title, one.line, len(found) % 2 == 0))
+            held = []
+    return found
+
+
+def outcome(step):
+    if step.action.hook:
+        return STATES[step.state]
+    return "done" if step.entry.code == 0 else f"refused, {step.entry.code}"
+
+
+def mark_title(step):
+    """What a mark says of itself."""
+    action = step.action
+    what = f"{action.label} {action.path or action.node or ''}".rstrip()
+    by = f", by {step.entry.by} of policy {step.entry.serial}" if step.entry.serial is not None else ""
+    content = f", {step.entry.content}" if step.state == "corrupt" else ""
+    return f"line {action.line}, {name_of(action.who)}: {what}: {outcome(step)}{by}{content}"
+
+
+def drawn(run):
+    """The picture in which each entry has a mark of its own."""
+    edges = [0.0]
+    for width in widths(run):
+        edges.append(edges[-1] + width)
+    rows = [Row(actor, name_of(actor), ROWS_TOP + ROW * at, ROW) for at, actor in enumerate(actors(run.steps))]
+    places = {row.actor: row.y + ROW / 2 for row in rows}
+    marks = [Mark((edges[at] + edges[at + 1]) / 2, places[step.action.who], step.state,
+                  "" if step.action.hook else LETTERS[step.action.verb], mark_title(step), step.action.line)
+             for at, step in enumerate(run.steps)]
+    phases, policies, epochs = bands(run, edges)
+    return Picture(edges[-1], ROWS_TOP + ROW * len(rows) + FOOT, False, phases, policies, epochs, rows, marks)
+
+
+def density_row(actor, steps, bin_of, top):
+    """The row of an actor: a lane for each state that it has, and in each a bar for each bin, as high as the number there."""
+    counts, firsts, lasts = {}, {}, {}
+    for at, step in steps:
+        column = bin_of(at)
+        counts.setdefault(step.state, Counter())[column] += 1
+        firsts.setdefault(column, step.action.line)
+        lasts[column] = step.action.line
+    names = [state for state in (*STATES, "done", "refused") if state in counts]
+    row = Row(actor, name_of(actor), top, LANE * len(names) + 8)
+    for number, state in enumerate(names):
+        base = top + 4 + LANE * (number + 1)
+        most = max(counts[state].values())
+        bars = []
+        for column, count in sorted(counts[state].items()):
+            height = max(1.5, (LANE - 3) * count / most)
+            bars.append((column * BIN + 0.5, round(base - height, 1), BIN - 1, round(height, 1)))
+        row.lanes.append(Lane(state, base, bars))
+    for column, line in sorted(firsts.items()):
+        words = ", ".join(f"{counts[state][column]:,} {STATES.get(state, state)}" for state in names if counts[state][column])
+        row.cells.append(Cell(column * BIN, f"{row.label}, lines {min(line, lasts[column])} to {max(line, lasts[column])}: {words}",
+                              line))
+    return row
+
+
+def densities(run):
+    """The picture in which a bar stands for the entries of a bin."""
+    total = len(run.steps)
+    edges = [BIN * BINS * at / total for at in range(total + 1)]
+    rows, top = [], ROWS_TOP
+    of_actor = {}
+    for at, step in enumerate(run.steps):
+        of_actor.setdefault(step.action.who, []).append((at, step))
+    for actor in actors(run.steps):
+        rows.append(density_row(actor, of_actor[actor], lambda at: BINS * at // total, top))
+        top += rows[-1].height
+    phases, policies, epochs = (merged(spans, 2 * BIN) for spans in bands(run, edges))
+    return Picture(BIN * BINS, top + FOOT, True, phases, policies, epochs, rows, [])
+
+
+def picture(run):
+    """The picture of a run, or None where nothing happens in it."""
+    if not run.steps:
+        return None
+    return densities(run) if len(run.steps) > DENSE else drawn(run)
