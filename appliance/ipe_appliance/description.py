@@ -8,7 +8,7 @@ import re
 from dataclasses import dataclass, field
 
 from . import ext4, images, rules, tools
-from .settings import Mistake, Table
+from .settings import Mistake, Table, joined
 
 VERDICTS = ("trusted", "unknown", "revoked")
 PURPOSES = {"policies": "policy", "roots": "root", "files": "file"}
@@ -120,7 +120,7 @@ class Reader:
         for name in list(table.values):
             with self.collecting():
                 path = table.text(name)
-                key = f"policies.{name}"
+                key = joined("policies", name)
                 if not rules.ID.fullmatch(name):
                     raise Mistake(key, f"the name of a policy's text is to be {rules.RULES[rules.ID]}")
                 text = self.file_bytes(key, path)

@@ -5,15 +5,13 @@ from dataclasses import dataclass
 
 import jinja2
 
-from . import picture
+from . import overview, picture
 from .run import STATES
 
 TEMPLATES = pathlib.Path(__file__).resolve().parent.parent / "templates"
 # Up to this many lines of the request file, each has a place of its own to link to; above it, each block has.
 OWN_PLACES = 4_000
 BLOCK = 50
-RECORDS = 400
-EPOCHS = 500
 AROUND = 4
 
 
@@ -26,19 +24,6 @@ class Block:
     lines: list
     hidden: bool
     whole: bool
-
-
-def counted(number, one, many=None):
-    return f"{number:,} {one if number == 1 else many or one + 's'}"
-
-
-def summary(run):
-    """What a run holds, in a sentence."""
-    workers = len({step.action.who for step in run.steps if step.action.hook})
-    refused = f", {run.refused:,} of them refused," if run.refused else ""
-    return (f"{counted(run.hooks, 'hook')} by {counted(workers, 'worker')} and {counted(run.commands, 'command')}{refused} in "
-            f"{counted(len(run.requests.phases), 'phase')}; {counted(len(run.policies), 'policy', 'policies')} taken, "
-            f"{counted(len(run.epochs), 'epoch')}.")
 
 
 def hidden_texts(requests):
@@ -76,13 +61,6 @@ def links(found):
     return lambda line: f"#L{places[line]}"
 
 
-def audits(run):
-    """The records by the policy that they are about, at most RECORDS of each, and how many more there are."""
-    for serial, records in sorted(run.records.items(), key=lambda item: item[0] or 0):
-        title = f"{run.policies[serial].title} (policy {serial})" if serial else "without an active policy"
-        yield title, records[:RECORDS], max(0, len(records) - RECORDS)
-
-
 def letters(run):
     """The letters of the commands that the picture has."""
     verbs = {step.action.verb for step in run.steps if not step.action.hook}
@@ -102,10 +80,10 @@ def page(run, title):
     """The page of a run."""
     found = blocks(run.requests)
     return environment().get_template("report.html").render(
-        run=run, title=title, refusal=None, summary=summary(run), states=STATES, count=count, href=links(found), blocks=found,
+        run=run, title=title, refusal=None, summary=overview.summary(run), states=STATES, count=count, href=links(found), blocks=found,
         picture=picture.picture(run), head=picture.HEAD, foot=picture.FOOT, bin=picture.BIN, bins=picture.BINS,
-        letters=letters(run), files=list(run.files.values()), audits=list(audits(run)),
-        record_count=sum(map(len, run.records.values())), epochs=run.epochs[:EPOCHS], more_epochs=max(0, len(run.epochs) - EPOCHS))
+        letters=letters(run), files=list(run.files.values()), audits=list(overview.audits(run)),
+        record_count=sum(map(len, run.records.values())), epochs=run.epochs[:overview.EPOCHS], more_epochs=max(0, len(run.epochs) - overview.EPOCHS))
 
 
 def refused_page(lines, refusal, title):

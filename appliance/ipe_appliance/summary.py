@@ -1,6 +1,6 @@
 """The report as a text for a terminal: the same parts as the page has, but for the picture and the request file."""
 
-from . import page
+from . import overview
 from .run import STATES
 
 SHOWN_LINES = 3
@@ -23,13 +23,13 @@ def hooks(run):
 
 def epochs(run):
     yield "EPOCHS"
-    for epoch in run.epochs[:page.EPOCHS]:
+    for epoch in run.epochs[:overview.EPOCHS]:
         began = f"line {epoch.line}" if epoch.line else "the start"
         policy = epoch.policy.title if epoch.policy else "no policy"
         yield (f"  {epoch.number}, began by {began}: {policy}, enforce {'on' if epoch.enforce else 'off'}, "
                f"success_audit {'on' if epoch.success_audit else 'off'}; hooks: {tally(epoch.answers)}")
-    if len(run.epochs) > page.EPOCHS:
-        yield f"  and {len(run.epochs) - page.EPOCHS:,} more"
+    if len(run.epochs) > overview.EPOCHS:
+        yield f"  and {len(run.epochs) - overview.EPOCHS:,} more"
 
 
 def files(run):
@@ -61,7 +61,7 @@ def rules(run):
 
 def audit(run):
     yield "AUDIT LOG"
-    for title, records, more in page.audits(run):
+    for title, records, more in overview.audits(run):
         yield f"  {title}: {len(records) + more:,} records"
         for line, record in records:
             yield f"    line {line}: {record}"
@@ -79,6 +79,6 @@ def corrupt(run):
 
 def text(run, title):
     """The whole summary of a run."""
-    parts = [[f"What the gate says to {title}", page.summary(run)]]
+    parts = [[f"What the gate says to {title}", overview.summary(run)]]
     parts += [list(part(run)) for part in (hooks, epochs, files, rules, audit, corrupt)]
     return "\n\n".join("\n".join(part) for part in parts) + "\n"
