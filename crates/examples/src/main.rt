@@ -1,8 +1,8 @@
 //! `examples` runs the program on each example of the folder that it is in, and prints whether it writes what stands beside
-//! the example: a request file is replayed, and a policy is linted.
+//! the example: a request file is replayed over the devices that stand beside it, and a policy is linted.
 #![tactic(auto)]
 
-use blk_device::{ImageDevices, NamedBytes};
+use blk_device::FileDevices;
 use ipe_program::run;
 use ipe_words::{MemorySink, MemorySource, Status};
 use std::process::ExitCode;
@@ -47,13 +47,7 @@ fn check(rt: &HostRuntime, word: &str, name: &str, stem: &str, kind: &str) -> io
     let words = vec![in alloc; String::from_str(alloc, word)?]?;
     let mut source = MemorySource::new(input.into_bytes(), MOST_WRITTEN, Vec::new(alloc));
     let mut sink = MemorySink::new(alloc, MOST_WRITTEN, MOST_WRITTEN, Vec::new(alloc))?;
-    let none = NamedBytes::from_vec(Vec::new(alloc));
-    let status = run(
-        alloc,
-        &words,
-        &mut source,
-        &mut sink,
-        &mut ImageDevices::new(&none),
-    );
+    let mut devices = FileDevices::new(rt);
+    let status = run(alloc, &words, &mut source, &mut sink, &mut devices);
     Ok(status == Status::Done && sink.written() == wanted.as_bytes())
 }

@@ -1,3 +1,4 @@
+pub mod Refusals
 pub mod Replay
 pub mod Lint
 pub mod Tree

@@ -13,6 +13,7 @@ use Rattle.ipe_parse.specs.declared.error.BadText.{BadText}
 use Rattle.ipe_parse.specs.declared.error.BadText.TheVariants.{Bad, NoDefault}
 use Rattle.ipe_parse.specs.Reading.{reading}
 use Rattle.line_words.specs.Lines.{line_text}
+use Rattle.ipe_program.specs.Refusals.{bad_line_text}
 
 -- a policy's name, version, number of rules and number of 64-bit words of its image
 abbrev pub lint_text : PolicyParts → List ℕ
@@ -36,8 +37,7 @@ kind_name BadDigest = codes "BadDigest"
 
 -- the refusal of a text by its first fault
 abbrev pub fault_text : BadText → List ℕ
-fault_text (Bad line kind) =
-    codes "refused line " ++ decimal line ++ codes ": " ++ kind_name kind ++ line_text (codes "")
+fault_text (Bad line kind) = bad_line_text line (kind_name kind)
 fault_text (NoDefault missing) = codes "refused: no default for " ++ op_word missing ++ line_text (codes "")
 
 -- the text reads as a policy, and what is written tells it

@@ -37,8 +37,8 @@ IsRead (Some most) status before after =
 pub record Serves {S K D : Type 0} (asked : Asked) (status : Status) (source : Handed S (List ℕ)) (sink : Handed K (List ℕ)) (devices : Handed D Contents) : Type 0 where
   -- an answer is the text of its status, added whole to what was written
   pub answer : HasText status →
-      WhereTold asked (source.tells source.before) (devices.tells devices.before) (λ input held.
-      (text : List ℕ) × IsAnswer asked status input held text
+      WhereTold asked (source.tells source.before) (λ input.
+      (text : List ℕ) × IsAnswer asked status input (devices.tells devices.before) text
       × Appends (sink.tells sink.before) (sink.tells sink.after) text)
   pub read : HasText status →
       IsRead (row asked).most_input status (source.tells source.before) (source.tells source.after)
@@ -48,8 +48,8 @@ pub record Serves {S K D : Type 0} (asked : Asked) (status : Status) (source : H
   pub write_fault : status ≡ ends.WriteFault → Failed sink
   -- after a fault of the sink some first bytes of an answer were added
   pub prefix : status ≡ ends.WriteFault →
-      WhereTold asked (source.tells source.before) (devices.tells devices.before) (λ input held.
-      (answered : Status) × (text : List ℕ) × IsAnswer asked answered input held text
+      WhereTold asked (source.tells source.before) (λ input.
+      (answered : Status) × (text : List ℕ) × IsAnswer asked answered input (devices.tells devices.before) text
       × AppendsPrefix (sink.tells sink.before) (sink.tells sink.after) text)
   -- without an answer nothing is written
   pub unwritten : (status ≡ ends.ReadFault) ⊎ (status ≡ ends.DeviceFault) ⊎ (status ≡ ends.NoMemory) →

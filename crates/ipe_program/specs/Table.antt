@@ -5,27 +5,27 @@ use Rattle.ipe_program.specs.declared.asked.Asked.{Asked}
 use Rattle.ipe_program.specs.declared.asked.Asked.TheVariants.{Replay, Lint, Measure, Tree}
 use Rattle.ipe_program.specs.Lint.{IsLinted, IsFaulty}
 use Rattle.ipe_program.specs.Measure.{measure_text}
-use Rattle.ipe_program.specs.Replay.{IsReplay, IsBadLine}
+use Rattle.ipe_program.specs.Replay.{IsReplay, IsReplayRefusal}
 use Rattle.ipe_program.specs.Tree.{IsOfTree, IsTreeRefusal}
 use Rattle.ipe_words.specs.declared.status.Status.{Status}
 use Rattle.ipe_words.specs.declared.status.Status.TheVariants as ends
 use Rattle.line_words.specs.Lines.{line_text}
 
 -- what is answered to what is asked: the most bytes of the input, if it is read; whether devices are asked; and what text
--- it is where it is done, and where it is refused, by the bytes that are read and what the devices hold
+-- it is where it is done, and where it is refused, by the bytes that are read and what the devices hold, where that is told
 pub record Row : Type 1 where
   pub most_input : Option ℕ
   pub asks_devices : Bool
-  pub IsDone : List ℕ → Contents → List ℕ → Type 0
-  pub IsRefused : List ℕ → Contents → List ℕ → Type 0
+  pub IsDone : List ℕ → Option Contents → List ℕ → Type 0
+  pub IsRefused : List ℕ → Option Contents → List ℕ → Type 0
 
 -- the table of all that can be asked
 abbrev pub row : Asked → Row
 row Replay = record {
   most_input = Some 16777216;
-  asks_devices = false;
-  IsDone = λ input held text. IsReplay input text;
-  IsRefused = λ input held text. IsBadLine input text;
+  asks_devices = true;
+  IsDone = λ input held text. IsReplay input held text;
+  IsRefused = λ input held text. IsReplayRefusal input held text;
 }
 row Lint = record {
   most_input = Some 1048576;
@@ -42,8 +42,8 @@ row (Measure tree) = record {
 row (Tree part tree) = record {
   most_input = None;
   asks_devices = true;
-  IsDone = λ input held text. IsOfTree part held tree text;
-  IsRefused = λ input held text. IsTreeRefusal held tree text;
+  IsDone = λ input held text. IfSome held (λ items. IsOfTree part items tree text);
+  IsRefused = λ input held text. IfSome held (λ items. IsTreeRefusal items tree text);
 }
 
 -- the input is within the limit, where there is one
@@ -71,7 +71,7 @@ abbrev pub HasText : Status → Type 0
 HasText status = (status ≡ ends.Done) ⊎ (status ≡ ends.Refused)
 
 -- the text that is written for what is asked, by the status, the input and what the devices hold
-abbrev pub IsAnswer : Asked → Status → List ℕ → Contents → List ℕ → Type 0
+abbrev pub IsAnswer : Asked → Status → List ℕ → Option Contents → List ℕ → Type 0
 IsAnswer asked status input held text =
     IsTooLong (row asked).most_input input text × (status ≡ ends.Refused)
     ⊎ Fits (row asked).most_input input
@@ -82,13 +82,6 @@ abbrev pub input_for : Option ℕ → Option (List ℕ) → Option (List ℕ)
 input_for None told = Some []
 input_for (Some most) told = told
 
--- what is told of the devices, and nothing where none is asked
-abbrev pub held_for : Bool → Option Contents → Option Contents
-held_for false told = Some []
-held_for true told = told
-
--- it is so where all that the answer is made of is told
-abbrev pub WhereTold : Asked → Option (List ℕ) → Option Contents → (List ℕ → Contents → Type 0) → Type 0
-WhereTold asked input held IsSo =
-    IfSome (input_for (row asked).most_input input) (λ bytes.
-    IfSome (held_for (row asked).asks_devices held) (λ items. IsSo bytes items))
+-- it is so of the input, where that is told
+abbrev pub WhereTold : Asked → Option (List ℕ) → (List ℕ → Type 0) → Type 0
+WhereTold asked input IsSo = IfSome (input_for (row asked).most_input input) IsSo

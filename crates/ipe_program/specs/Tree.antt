@@ -9,6 +9,7 @@ use Rattle.hash_tree.specs.Hash.{sha256_hash}
 use Rattle.hash_tree.specs.Shape.{height, tree_blocks}
 use Rattle.hash_tree.specs.Tree.{fan_out, root, stored}
 use Rattle.line_words.specs.Lines.{line_text}
+use Rattle.ipe_program.specs.Refusals.{device_text}
 use Rattle.ipe_program.specs.declared.asked.ImageTree.{ImageTree}
 use Rattle.ipe_program.specs.declared.asked.TreePart.{TreePart}
 use Rattle.ipe_program.specs.declared.asked.TreePart.TheVariants.{Root, HashBlocks}
@@ -34,10 +35,6 @@ root_text tree bytes =
     root_line (root sha256_hash tree.block_size tree.salt (chunks tree.block_size bytes))
     (height (fan_out sha256_hash tree.block_size) (length bytes / tree.block_size))
     (tree_blocks (fan_out sha256_hash tree.block_size) (length bytes / tree.block_size))
-
--- the refusal of a device
-abbrev pub device_text : List ℕ → List ℕ → List ℕ
-device_text device why = codes "refused: device " ++ device ++ codes ": " ++ why ++ line_text (codes "")
 
 -- the device has an image within the limit, whose bytes are whole blocks
 pub record HasImage (items : Contents) (tree : ImageTree) (bytes : List ℕ) : Type 0 where

@@ -1,6 +1,6 @@
-ghost use Rattle.std.specs.Prelude.{◌≡◌, IfOk, IfSome, IsErrOf, false};
+ghost use Rattle.std.specs.Prelude.{◌≡◌, IfOk, IsErrOf, false};
 ghost use Rattle.ipe_program.specs.Asked.{HasRule};
-ghost use Rattle.ipe_program.specs.Table.{Fits, HasText, IsAnswer, held_for, row};
+ghost use Rattle.ipe_program.specs.Table.{Fits, HasText, IsAnswer, row};
 ghost use Rattle.ipe_words.specs.Count.{Rose};
 
 use crate::Asked;
@@ -64,8 +64,7 @@ pub(crate) fn answer_to<D: Devices>(
     requires rule { HasRule asked.now }
     requires fits { Fits (row asked.now).most_input input.now }
     ensures answer { IfOk result (λ answer.
-        IfSome (held_for (row asked.now).asks_devices (D.contents devices.old)) (λ held.
-        IsAnswer asked.now answer.status input.now held answer.text.items)) }
+        IsAnswer asked.now answer.status input.now (D.contents devices.old) answer.text.items) }
     ensures status { IfOk result (λ answer. HasText answer.status) }
     ensures unread { IsErrOf result Unanswered.ReadFault → ⊥ }
     ensures device_fault { IsErrOf result Unanswered.DeviceFault → Rose (D.faults devices.old) (D.faults devices.new) }
@@ -73,7 +72,7 @@ pub(crate) fn answer_to<D: Devices>(
     ensures contents_stay { D.contents devices.new ≡ D.contents devices.old }
 {
     match asked {
-        Asked::Replay => Ok(replayed(alloc, input)?),
+        Asked::Replay => replayed(alloc, input, devices),
         Asked::Lint => Ok(linted(alloc, input)?),
         Asked::Measure(tree) => Ok(measured(alloc, tree, input)?),
         Asked::Tree(part, tree) => tree_told(alloc, *part, tree, devices),

@@ -10,6 +10,7 @@ mod asked;
 mod edge;
 mod file_digest;
 mod linter;
+mod refusals;
 mod replay;
 mod shell;
 mod tree;

@@ -1,10 +1,10 @@
 ghost use Rattle.std.specs.Prelude.{◌≡◌, ◌≤◌, ◌++◌, length, codes, IfOk};
-ghost use Rattle.std.specs.Fmt.{decimal};
 ghost use Rattle.line_words.specs.Lines.{line_text};
 ghost use Rattle.ipe_program.specs.Lint.{IsFaulty, IsLinted, kind_name, lint_text};
 ghost use Rattle.ipe_program.specs.Table.{ByStatus};
 
 use crate::answers::Answer;
+use crate::refusals::bad_line;
 use ipe_parse::{BadKind, ParseError, parse};
 use ipe_policy::{Policy, image_words, rule_count};
 use std::alloc::{AllocError, Global};
@@ -38,16 +38,6 @@ fn ok_line(alloc: Global, policy: &Policy) -> Result<Vec<u8>, AllocError>
     text.extend_from_slice(policy.name.as_slice())?;
     text.extend_from_slice(rest.as_bytes())?;
     Ok(text)
-}
-
-fn bad_line(alloc: Global, line: u32, name: &str) -> Result<Vec<u8>, AllocError>
-    ensures { IfOk result (λ text. text.items
-        ≡ codes "refused line " ++ decimal line ++ codes ": " ++ name.now ++ line_text (codes "")) }
-{
-    let mut text = format!(in alloc; "refused line {line}: ")?;
-    text.push_str(name)?;
-    text.push_str("\n")?;
-    Ok(text.into_bytes())
 }
 
 fn no_default_line(alloc: Global, word: &str) -> Result<Vec<u8>, AllocError>

@@ -1,35 +1,118 @@
-ghost use Rattle.std.specs.Prelude.{◌≡◌, ◌≤◌, length, IfOk};
-ghost use Rattle.ipe_program.specs.Replay.{IsBadLine, IsReplay, bad_line_text};
-ghost use Rattle.ipe_program.specs.Table.{ByStatus};
+ghost use Rattle.std.specs.Prelude.{◌≡◌, ◌≤◌, List, length, IfOk, IsErrOf, Some};
+ghost use Rattle.ipe_words.specs.Count.{Rose};
+ghost use Rattle.ipe_lines.specs.Files.{files_of};
+ghost use Rattle.ipe_lines.specs.Spelled.{numbers_of, spelled};
+ghost use Rattle.ipe_lines.specs.Told.{TellInOrder};
+ghost use Rattle.ipe_objects.specs.Devices.{AreImages};
+ghost use Rattle.ipe_objects.specs.declared.images.ImagesError.{ImagesError};
+ghost use Rattle.ipe_transcript.specs.Text.{transcript_text};
+ghost use Rattle.ipe_transcript.specs.declared.transcript.Entry.{Entry};
+ghost use Rattle.ipe_program.specs.Replay.{IsDeviceRefusal, IsReplay, IsReplayRefusal, IsTranscript, kind_name, refusal_text};
+ghost use Rattle.ipe_program.specs.Table.{ByStatus, HasText};
 
-use crate::answers::Answer;
-use ipe_history::{
-    printed_order_is_in_place, requests_are_in_file_order, transcripts_spell_their_order,
-};
+use crate::answers::{Answer, Unanswered};
+use crate::refusals::{bad_line, device_line};
+use blk_device::Devices;
+use ipe_lines::transcripts_spell_their_order;
+use ipe_objects::{Images, ImagesError, load_images};
 use ipe_replay::replay;
-use ipe_script::{ScriptError, ScriptKind, parse_requests};
+use ipe_requests::{
+    Requests, ScriptError, ScriptKind, bytes_are_requests_or_have_a_first_bad_line, parse_requests,
+    requests_are_read_of_their_spelling,
+};
+use ipe_transcript::print_transcript;
 use std::alloc::{AllocError, Global};
 
-/// The transcript of a request file, or the line that tells its first bad line.
-pub(crate) fn replayed(alloc: Global, input: &[u8]) -> Result<Answer, AllocError>
+/// The transcript of a request file over the devices that it names, or the line that tells its first bad line or the first
+/// of its devices that is refused.
+pub(crate) fn replayed<D: Devices>(
+    alloc: Global,
+    input: &[u8],
+    devices: &mut D,
+) -> Result<Answer, Unanswered>
     requires { length input.now ≤ 16777216 }
-    ensures { IfOk result (λ answer.
-        ByStatus (IsReplay input.now answer.text.items) (IsBadLine input.now answer.text.items) answer.status) }
+    ensures answer { IfOk result (λ answer. ByStatus (IsReplay input.now (D.contents devices.old) answer.text.items)
+        (IsReplayRefusal input.now (D.contents devices.old) answer.text.items) answer.status) }
+    ensures status { IfOk result (λ answer. HasText answer.status) }
+    ensures unread { IsErrOf result Unanswered.ReadFault → ⊥ }
+    ensures failed { IsErrOf result Unanswered.DeviceFault → Rose (D.faults devices.old) (D.faults devices.new) }
+    ensures same { D.contents devices.new ≡ D.contents devices.old }
 {
-    requests_are_in_file_order();
-    printed_order_is_in_place();
-    transcripts_spell_their_order();
+    bytes_are_requests_or_have_a_first_bad_line();
     match parse_requests(alloc, input) {
-        Ok(requests) => Ok(Answer::done(replay(alloc, &requests)?)),
-        Err(ScriptError::Bad { line, kind }) => Ok(Answer::refused(bad_line(alloc, line, kind)?)),
-        Err(ScriptError::NoMemory) => Err(AllocError),
+        Ok(requests) => over_devices(alloc, &requests, devices),
+        Err(ScriptError::Bad { line, kind }) => {
+            Ok(Answer::refused(bad_line(alloc, line, name_of(kind))?))
+        }
+        Err(ScriptError::NoMemory) => Err(Unanswered::NoMemory),
     }
 }
 
-fn bad_line(alloc: Global, line: u32, kind: ScriptKind) -> Result<Vec<u8>, AllocError>
-    ensures { IfOk result (λ text. text.items ≡ bad_line_text line) }
+// The transcript of requests over the devices that they name, or the line that refuses one of these.
+fn over_devices<D: Devices>(
+    alloc: Global,
+    requests: &Requests,
+    devices: &mut D,
+) -> Result<Answer, Unanswered>
+    ensures answer { IfOk result (λ answer.
+        ByStatus (IsTranscript requests.now (D.contents devices.old) answer.text.items)
+        (IsDeviceRefusal requests.now (D.contents devices.old) answer.text.items) answer.status) }
+    ensures status { IfOk result (λ answer. HasText answer.status) }
+    ensures unread { IsErrOf result Unanswered.ReadFault → ⊥ }
+    ensures failed { IsErrOf result Unanswered.DeviceFault → Rose (D.faults devices.old) (D.faults devices.new) }
+    ensures same { D.contents devices.new ≡ D.contents devices.old }
+{
+    match load_images(alloc, requests, devices) {
+        Ok(images) => Ok(Answer::done(transcript(alloc, requests, &images)?)),
+        Err(error) => Ok(Answer::refused(refused_device(alloc, error)?)),
+    }
+}
+
+// The line that refuses a device, or why there is no answer.
+fn refused_device(alloc: Global, error: ImagesError) -> Result<Vec<u8>, Unanswered>
+    ensures text { IfOk result (λ text. refusal_text error ≡ Some text.items) }
+    ensures unread { IsErrOf result Unanswered.ReadFault → ⊥ }
+    ensures failed { IsErrOf result Unanswered.DeviceFault → error ≡ ImagesError.DeviceFault }
+{
+    match error {
+        ImagesError::DeviceFault => Err(Unanswered::DeviceFault),
+        ImagesError::NoMemory => Err(Unanswered::NoMemory),
+        ImagesError::Missing { name } => Ok(device_line(alloc, name.as_slice(), "missing")?),
+        ImagesError::TooLarge { name } => Ok(device_line(alloc, name.as_slice(), "too large")?),
+        ImagesError::TooSmall { name } => Ok(device_line(alloc, name.as_slice(), "too small")?),
+    }
+}
+
+// The text of the transcript of requests whose devices have these images.
+fn transcript(alloc: Global, requests: &Requests, images: &Images) -> Result<Vec<u8>, AllocError>
+    requires { AreImages requests.now images.now }
+    ensures { IfOk result (λ text. (entries : List (List Entry))
+        × TellInOrder requests.now (files_of requests.now images.now) entries
+        × (text.items ≡ transcript_text entries) × (spelled text.items ≡ numbers_of entries)) }
+{
+    requests_are_read_of_their_spelling(requests);
+    transcripts_spell_their_order();
+    let transcript = replay(alloc, requests, images)?;
+    print_transcript(alloc, &transcript)
+}
+
+// The name of what is wrong with a line.
+fn name_of(kind: ScriptKind) -> &'static str
+    ensures { result.now ≡ kind_name kind }
 {
     match kind {
-        ScriptKind::NotYet => Ok(format!(in alloc; "refused line {line}: NotYet\n")?.into_bytes()),
+        ScriptKind::Unended => "Unended",
+        ScriptKind::NoNewline => "NoNewline",
+        ScriptKind::After => "After",
+        ScriptKind::Header => "Header",
+        ScriptKind::Form => "Form",
+        ScriptKind::Number => "Number",
+        ScriptKind::Name => "Name",
+        ScriptKind::Hex => "Hex",
+        ScriptKind::Table => "Table",
+        ScriptKind::Twice => "Twice",
+        ScriptKind::Unknown => "Unknown",
+        ScriptKind::Range => "Range",
+        ScriptKind::Limit => "Limit",
     }
 }

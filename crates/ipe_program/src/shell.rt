@@ -118,8 +118,8 @@ fn answer<S: Source, D: Devices>(
 ) -> Result<Answer, Unanswered>
     requires { HasRule asked.now }
     ensures answer { IfOk result (λ answer.
-        WhereTold asked.now (S.remaining source.old) (D.contents devices.old) (λ input held.
-        IsAnswer asked.now answer.status input held answer.text.items)) }
+        WhereTold asked.now (S.remaining source.old) (λ input.
+        IsAnswer asked.now answer.status input (D.contents devices.old) answer.text.items)) }
     ensures status { IfOk result (λ answer. HasText answer.status) }
     ensures read { IfOk result (λ answer.
         IsRead (row asked.now).most_input answer.status (S.remaining source.old) (S.remaining source.new)) }

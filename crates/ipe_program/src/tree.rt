@@ -3,11 +3,12 @@ ghost use Rattle.ipe_words.specs.Count.{Rose};
 ghost use Rattle.dmv_tree.specs.Blocks.{AreBlocks, is_block_size};
 ghost use Rattle.ipe_program.specs.Asked.{HasRule};
 ghost use Rattle.ipe_program.specs.Tree.{AreNoBlocks, HasImage, IsOfTree, IsRefusedFor, IsTreeRefusal};
-ghost use Rattle.ipe_program.specs.Tree.{device_text, refusal_words, root_line, shape_text, tree_text};
+ghost use Rattle.ipe_program.specs.Tree.{refusal_words, root_line, shape_text, tree_text};
 ghost use Rattle.ipe_program.specs.Table.{ByStatus, HasText};
 ghost use Rattle.ipe_program.specs.declared.asked.Asked.{Asked};
 
 use crate::answers::{Answer, Unanswered};
+use crate::refusals::device_line;
 use crate::{ImageTree, TreePart};
 use blk_device::{DevError, Devices, ReadDeviceError, read_device};
 use dmv_tree::{Shape, build, layout};
@@ -50,7 +51,8 @@ pub(crate) fn tree_told<D: Devices>(
         Ok(image) => Ok(Answer::done(tree_text(alloc, part, tree, &image)?)),
         Err(refusal) => {
             let device = tree.device.as_slice();
-            Ok(Answer::refused(refusal_line(alloc, device, refusal)?))
+            let why = words_of(refusal);
+            Ok(Answer::refused(device_line(alloc, device, why)?))
         }
     }
 }
@@ -141,17 +143,6 @@ fn shape_text(alloc: Global, levels: u8, hash_blocks: u64) -> Result<String, All
     ensures { IfOk result (λ text. string_bytes text ≡ shape_text levels hash_blocks) }
 {
     format!(in alloc; " levels={levels} hash_blocks={hash_blocks}\n")
-}
-
-fn refusal_line(alloc: Global, device: &[u8], refusal: Refusal) -> Result<Vec<u8>, AllocError>
-    ensures { IfOk result (λ text. text.items ≡ device_text device.now (refusal_words refusal)) }
-{
-    let mut text = b"refused: device ".to_vec(alloc)?;
-    text.extend_from_slice(device)?;
-    text.extend_from_slice(b": ")?;
-    text.extend_from_slice(words_of(refusal).as_bytes())?;
-    text.extend_from_slice(b"\n")?;
-    Ok(text)
 }
 
 fn words_of(refusal: Refusal) -> &'static str

@@ -5,8 +5,8 @@ use Rattle.std.proofs.lemmas.Bool.{cases_eq, cases_lt}
 use Rattle.std.proofs.lemmas.List.{get_or-replicate, get_or-set_same, get_or-set_other, length-replicate, length-set}
 use Rattle.std.proofs.lemmas.Option.{get_or_from_slice_get, none-some, slice_get-get_or, slice_get_past, slice_get_within}
 use Rattle.sha2.specs.Sha256.{sha256}
-use Rattle.ipe_script.specs.Script.{Script, bytes_of}
-use Rattle.ipe_replay.specs.Digests.{AreDigests}
+use Rattle.ipe_requests.specs.Requests.{Script}
+use Rattle.ipe_replay.specs.Digests.{AreDigests, bytes_at}
 
 -- nothing is known
 pub none_known : (script : Script) (texts : ℕ) → AreDigests script (replicate texts None)
@@ -21,7 +21,7 @@ none_known script texts place digest is = elim (cases_lt place texts) [
 
 -- one digest more is known
 pub one_more : (script : Script) (known : List (Option (List ℕ))) (place : ℕ) (digest : List ℕ) → place < length known
-    → digest ≡ sha256 (bytes_of script place) → AreDigests script known → AreDigests script (slice_set known place (Some digest))
+    → digest ≡ sha256 (bytes_at script place) → AreDigests script known → AreDigests script (slice_set known place (Some digest))
 one_more script known place digest within right before at found is =
     let there : at < length known = subst (λ (n : ℕ). at < n) (length-set known place (Some digest)) (slice_get_within (slice_set known place (Some digest)) at (Some found) is) in
     let got : get_or (slice_set known place (Some digest)) at None ≡ Some found = get_or_from_slice_get (slice_set known place (Some digest)) at (Some found) None is in
@@ -29,7 +29,7 @@ one_more script known place digest within right before at found is =
       | inl same ↦
           let one : get_or (slice_set known place (Some digest)) at None ≡ Some digest = subst (λ (i : ℕ). get_or (slice_set known place (Some digest)) i None ≡ Some digest) (sym same) (get_or-set_same known place (Some digest) None within) in
           let found_is : found ≡ digest = cc in
-          found_is ∙ right ∙ ap (λ (i : ℕ). sha256 (bytes_of script i)) (sym same)
+          found_is ∙ right ∙ ap (λ (i : ℕ). sha256 (bytes_at script i)) (sym same)
       | inr other ↦
           let old : get_or known at None ≡ Some found = sym (get_or-set_other known place at (Some digest) None other) ∙ got in
           before at found (slice_get-get_or known at None there ∙ ap (λ (o : Option (List ℕ)). Some o) old)

@@ -1,6 +1,8 @@
--- A line takes at most one serial and one claim, and leaves the pass free.
-use Rattle.std.proofs.Common.{◌≡◌, ℕ, suc, ◌+◌, ◌≤◌, ◌==◌, cond, Bool, true, false, IsTrue, List, [], ◌∷◌, Option, Some}
-use Rattle.std.proofs.Common.{None, Result, Ok, Err, slice_get, slice_set, is_some, length, refl, arith}
+-- A line takes at most one serial and one claim, and leaves each pass free.
+use Rattle.std.proofs.Common.{◌≡◌, ℕ, zero, suc, ◌+◌, ◌-◌, ◌<◌, ◌≤◌, ◌==◌, cond, Bool, true, false, IsTrue, List, [], ◌∷◌, Option, Some, ap, ◌∙◌, sym, subst}
+use Rattle.std.proofs.Common.{None, Result, Ok, Err, slice_get, slice_set, is_some, length, map, refl, arith}
+use Rattle.std.specs.Prelude.{replicate}
+use Rattle.std.specs.List.{AllByRecursion}
 use Rattle.ipe_policy.specs.declared.op.Op.{Op}
 use Rattle.ipe_policy.specs.Request.{evaluated_op}
 use Rattle.ipe_machine.specs.declared.command.Act.{Act}
@@ -13,13 +15,14 @@ use Rattle.ipe_machine.specs.declared.event.Event.TheVariants as event
 use Rattle.ipe_machine.specs.Policies.{Policies, Loaded, is_active, active_entry}
 use Rattle.ipe_machine.specs.Change.{changed}
 use Rattle.ipe_machine.specs.Answer.{Verdicts, after_answer, after, answer}
-use Rattle.ipe_machine.specs.Machine.{Machine, after_event, claimed, with_policies, is_free}
-use Rattle.ipe_script.specs.declared.script.PhaseLine.{PhaseLine}
-use Rattle.ipe_script.specs.declared.script.Task.{Task}
-use Rattle.ipe_script.specs.declared.script.Task.TheVariants as task
-use Rattle.ipe_script.specs.Script.{Script}
-use Rattle.ipe_history.specs.Order.{after_hook, after_line, after_lines, after_task, after_write, asked_by, verdicts_of}
+use Rattle.ipe_machine.specs.Machine.{Machine, after_event, claimed, first_machine, with_policies, is_free}
+use Rattle.ipe_requests.specs.declared.script.PhaseLine.{PhaseLine}
+use Rattle.ipe_requests.specs.declared.script.PhaseLine.TheVariants as asked
+use Rattle.ipe_requests.specs.Rules.{IsHookOf}
+use Rattle.ipe_weave.specs.Lines.{after_hook, after_write}
+use Rattle.ipe_lines.specs.Asked.{asked_by}
 use Rattle.ipe_replay.specs.Room.{HasRoom}
+use Rattle.ipe_replay.specs.Setting.{Setting, machine_after, machine_after_lines, signer_in}
 
 cond-next : (b : Bool) (p q : Policies) (n : ℕ) → p.next ≤ n → q.next ≤ n → (cond b p q).next ≤ n
 cond-next true p q n hp hq = hp
@@ -48,86 +51,91 @@ after_answer-next p act (Ok done.Activated) = changed-next p act
 after_answer-next p act (Ok done.Deleted) = changed-next p act
 after_answer-next p act (Ok done.Changed) = changed-next p act
 
--- a command takes at most one serial and no claim
-room-command : (v : Verdicts) (m : Machine) (c : Command) (n : ℕ) → HasRoom m (suc n)
-    → HasRoom (with_policies m (after v m.policies c)) n
-room-command v m c n room = record {
-  serials = omega (arith, after_answer-next m.policies c.act (answer v m.policies c), room.serials);
+-- policies that took at most one serial leave room for one line less
+room-policies : (W : ℕ) (m : Machine) (p : Policies) (n : ℕ) → p.next ≤ m.policies.next + 1 → HasRoom W m (suc n)
+    → HasRoom W (with_policies m p) n
+room-policies W m p n one room = record {
+  serials = omega (arith, one, room.serials);
   claims = omega (
     arith,
-    cond-le ((after v m.policies c).epoch == m.policies.epoch) m.count 0 m.count (omega arith) (omega arith),
+    cond-le (p.epoch == m.policies.epoch) m.count 0 m.count (omega arith) (omega arith),
     room.claims,
   );
   free = room.free;
 }
 
--- a pass that took something and returned it is free
-free-returned : (held : List (Option ℕ)) (serial : ℕ) → IsTrue (is_free (slice_get held 0))
-    → IsTrue (is_free (slice_get (slice_set (slice_set held 0 (Some serial)) 0 None) 0))
-free-returned [] serial free = free
-free-returned (h ∷ held) serial free = refl
+-- a write takes at most one serial and no claim
+room-write : (W : ℕ) (v : Verdicts) (m : Machine) (asked : Result Command Refusal) (n : ℕ) → HasRoom W m (suc n)
+    → HasRoom W (with_policies m (after_write v m.policies asked)) n
+room-write W v m (Ok command) n room =
+    room-policies W m (after v m.policies command) n
+    (after_answer-next m.policies command.act (answer v m.policies command)) room
+room-write W v m (Err refusal) n room = room-policies W m m.policies n (omega arith) room
+
+-- a free pass that takes something and returns it is free
+returned : (W p serial : ℕ) → slice_set (slice_set (replicate W None) p (Some serial)) p None ≡ replicate W None
+returned zero p serial = refl
+returned (suc W) zero serial = refl
+returned (suc W) (suc p) serial = ap (λ (held : List (Option ℕ)). None ∷ held) (returned W p serial)
+
+-- each pass is free
+pub free-pass : (W p : ℕ) → p < W → IsTrue (is_free (slice_get (replicate W None) p))
+free-pass zero p lt = absurd (omega (arith, lt))
+free-pass (suc W) zero lt = refl
+free-pass (suc W) (suc p) lt = free-pass W p (omega (arith, lt))
 
 -- room for more lines is room for fewer
-pub room-fewer : (m : Machine) (k n : ℕ) → k ≤ n → HasRoom m n → HasRoom m k
-room-fewer m k n le room = record {
-  serials = omega (arith, room.serials);
-  claims = omega (arith, room.claims);
+pub room-fewer : (W : ℕ) (m : Machine) (k n : ℕ) → k ≤ n → HasRoom W m n → HasRoom W m k
+room-fewer W m k n le room = record {
+  serials = omega (arith, room.serials, le);
+  claims = omega (arith, room.claims, le);
   free = room.free;
 }
 
 -- a claim on a policy takes a place, and the pass is free once it is returned
-room-entry : (v : Verdicts) (m : Machine) (entry : Option Loaded) (n : ℕ) → HasRoom m (suc n)
-    → HasRoom (cond (is_some entry) (after_event v (claimed m 0 entry) (event.Return 0)) (claimed m 0 entry)) n
-room-entry v m None n room = record {
+room-entry : (W : ℕ) (v : Verdicts) (m : Machine) (p : ℕ) (entry : Option Loaded) (n : ℕ) → HasRoom W m (suc n)
+    → HasRoom W (cond (is_some entry) (after_event v (claimed m p entry) (event.Return p)) (claimed m p entry)) n
+room-entry W v m p None n room = record {
   serials = omega (arith, room.serials);
   claims = omega (arith, room.claims);
   free = room.free;
 }
-room-entry v m (Some entry) n room = record {
+room-entry W v m p (Some entry) n room = record {
   serials = omega (arith, room.serials);
   claims = omega (arith, room.claims);
-  free = free-returned m.held entry.serial room.free;
+  free = ap (λ (held : List (Option ℕ)). slice_set (slice_set held p (Some entry.serial)) p None) room.free
+      ∙ returned W p entry.serial;
 }
 
 -- a hook takes at most one place
-room-hook : (v : Verdicts) (m : Machine) (op : Option Op) (n : ℕ) → HasRoom m (suc n) → HasRoom (after_hook v m op) n
-room-hook v m None n room = room-fewer m n (suc n) (omega arith) room
-room-hook v m (Some op) n room = room-entry v m (active_entry m.policies) n room
-
--- a write takes at most one serial
-room-write : (v : Verdicts) (m : Machine) (asked : Result Command Refusal) (n : ℕ) → HasRoom m (suc n)
-    → HasRoom (after_write v m asked) n
-room-write v m (Ok command) n room = room-command v m command n room
-room-write v m (Err refusal) n room = room-fewer m n (suc n) (omega arith) room
+room-hook : (W : ℕ) (v : Verdicts) (m : Machine) (worker : ℕ) (op : Option Op) (n : ℕ) → HasRoom W m (suc n)
+    → HasRoom W (after_hook v m worker op) n
+room-hook W v m worker None n room = room-fewer W m n (suc n) (omega arith) room
+room-hook W v m worker (Some op) n room = room-entry W v m (worker - 1) (active_entry m.policies) n room
 
 -- after a line there is room for one less
-pub room-after_line : (script : Script) (m : Machine) (line : PhaseLine) (n : ℕ) → HasRoom m (suc n)
-    → HasRoom (after_line script m line) n
-room-after_line script m line n room = room-task line.task
-  where
-    room-task : (t : Task) → HasRoom (after_task script m t) n
-    room-task (task.Write may node content) =
-        room-write (verdicts_of script) m (asked_by script may node content) n room
-    room-task (task.Read node) = room-fewer m n (suc n) (omega arith) room
-    room-task (task.Hook request subject file) = room-hook (verdicts_of script) m (evaluated_op request) n room
+pub room-after : (s : Setting) (m : Machine) (line : PhaseLine) (n : ℕ) → HasRoom s.script.workers m (suc n)
+    → HasRoom s.script.workers (machine_after s m line) n
+room-after s m (asked.Write number may node content) n room =
+    room-write s.script.workers (signer_in s) m (asked_by s.script may node content) n room
+room-after s m (asked.Read number node) n room =
+    room-fewer s.script.workers m n (suc n) (omega arith) room
+room-after s m (asked.Hook number worker request subject path) n room =
+    room-hook s.script.workers (signer_in s) m worker (evaluated_op request) n room
 
 -- after lines there is room for the others
-pub room-after_lines : (script : Script) (m : Machine) (lines : List PhaseLine) (n : ℕ) → HasRoom m (length lines + n)
-    → HasRoom (after_lines script m lines) n
-room-after_lines script m [] n room = room-fewer m n (0 + n) (omega arith) room
-room-after_lines script m (line ∷ lines) n room =
-    room-after_lines script (after_line script m line) lines n
-    (room-after_line script m line (length lines + n)
-    (room-fewer m (suc (length lines + n)) (suc (length lines) + n) (omega arith) room))
+pub room-after-lines : (s : Setting) (m : Machine) (lines : List PhaseLine) (n : ℕ)
+    → HasRoom s.script.workers m (length lines + n) → HasRoom s.script.workers (machine_after_lines s m lines) n
+room-after-lines s m [] n room = room-fewer s.script.workers m n (0 + n) (omega arith) room
+room-after-lines s m (line ∷ lines) n room =
+    room-after-lines s (machine_after s m line) lines n
+    (room-after s m line (length lines + n)
+    (room-fewer s.script.workers m (suc (length lines + n)) (suc (length lines) + n) (omega arith) room))
 
--- room for three parts is room for each, after those before it
-pub room-parts : (script : Script) (m : Machine) (early commands late : List PhaseLine) (n : ℕ)
-    → length early + length commands + length late ≡ n → HasRoom m n
-    → HasRoom (after_lines script m early) (length commands)
-    × HasRoom (after_lines script (after_lines script m early) commands) (length late)
-room-parts script m early commands late n all room =
-    let behind = room-after_lines script m early (length commands + length late)
-    (room-fewer m (length early + (length commands + length late)) n (omega (arith, all)) room) in (
-      room-fewer (after_lines script m early) (length commands) (length commands + length late) (omega arith) behind,
-      room-after_lines script (after_lines script m early) commands (length late) behind,
-    )
+-- the first machine has room for as many lines as a request file may have
+pub room-first : (W n : ℕ) → n ≤ 16777216 → HasRoom W (first_machine W) n
+room-first W n few = record {
+  serials = omega (arith, few);
+  claims = omega (arith, few);
+  free = refl;
+}

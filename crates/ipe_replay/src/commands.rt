@@ -1,25 +1,23 @@
-ghost use Rattle.std.specs.Prelude.{◌≡◌, IfOk, OnOk, neg_ℤ, pos};
+ghost use Rattle.std.specs.Prelude.{◌≡◌, ◌==◌, IfOk, None, Ok, OnOk, neg_ℤ, not, pos};
 ghost use Rattle.ipe_words.specs.Number.{errno_number};
-ghost use Rattle.ipe_script.specs.declared.script.Task.TheVariants.{Read, Write};
-ghost use Rattle.ipe_transcript.specs.declared.entry.Entry.TheVariants as entry;
-ghost use Rattle.ipe_signer.specs.Marks.{last_verdict};
-ghost use Rattle.ipe_machine.specs.declared.event.Event.TheVariants as event;
-ghost use Rattle.ipe_machine.specs.Answer.{after, answer};
-ghost use Rattle.ipe_machine.specs.Machine.{after_event};
+ghost use Rattle.ipe_machine.specs.Machine.{with_policies};
 ghost use Rattle.ipe_machine.specs.Refusals.{errno_of};
 ghost use Rattle.ipe_nodes.specs.Nodes.{node_read};
-ghost use Rattle.ipe_records.specs.Records.{records_of};
-ghost use Rattle.ipe_history.specs.Order.{after_task, asked_by, task_reply, told};
-ghost use Rattle.ipe_history.specs.Transcript.{code_of, entry_of};
+ghost use Rattle.ipe_transcript.specs.Entries.{code_of};
+ghost use Rattle.ipe_transcript.specs.declared.transcript.Entry.TheVariants as entry;
+ghost use Rattle.ipe_weave.specs.Lines.{Read, Write, after_write, told, write_reply};
+ghost use Rattle.ipe_weave.specs.Told.{told_entry};
+ghost use Rattle.ipe_lines.specs.Asked.{asked_by, verdicts_of};
 ghost use Rattle.ipe_replay.specs.Room.{HasRoom};
 
-use crate::marks::bytes_of;
 use crate::running::Replay;
+use crate::texts::text_bytes;
 use ipe_audit::Lines;
 use ipe_core::{Command, Done, Refusal, State, commit};
 use ipe_nodes::{command_of, read_registry};
+use ipe_objects::Declared;
 use ipe_records::command_records;
-use ipe_script::{Requests, WriteContent};
+use ipe_requests::WriteContent;
 use ipe_transcript::Entry;
 use ipe_words::Bytes;
 use std::alloc::{AllocError, Global};
@@ -27,15 +25,17 @@ use std::alloc::{AllocError, Global};
 // What a write asks for. A text and digits are handed on as they are.
 fn asked_by(
     alloc: Global,
-    requests: &Requests,
+    declared: &Declared,
     may: bool,
     node: &[u8],
     content: &WriteContent,
 ) -> Result<Result<Command, Refusal>, AllocError>
-    ensures { IfOk result (λ asked. asked ≡ asked_by requests.now may node.now content.now) }
+    ensures { IfOk result (λ asked. asked ≡ asked_by declared.now may node.now content.now) }
 {
     match content {
-        WriteContent::Text(place) => command_of(alloc, node, bytes_of(requests, *place), may),
+        WriteContent::Text(id) => {
+            command_of(alloc, node, text_bytes(declared, id.as_slice()), may)
+        }
         WriteContent::Echo(word) => {
             let mut bytes = word.as_slice().to_vec(alloc)?;
             bytes.push(b'\n')?;
@@ -62,58 +62,82 @@ fn code_of(answer: &Result<Done, Refusal>) -> i32
     }
 }
 
+// The entry of a write after which the epoch is this, where it was that before.
+fn written(
+    phase: u32,
+    line: u32,
+    may: bool,
+    code: i32,
+    epoch: u16,
+    before: u16,
+    records: Lines,
+) -> Entry
+    ensures { result ≡ entry.Write phase line may code epoch (not (epoch == before)) records }
+{
+    Entry::Write {
+        phase,
+        line,
+        may,
+        code,
+        epoch,
+        switched: epoch != before,
+        records,
+    }
+}
+
 // The entry of a command. Its records are made from its plan, before it changes anything.
 fn command_entry(
     replay: &Replay<'_>,
     state: &mut State,
+    phase: u32,
     line: u32,
     command: &Command,
 ) -> Result<Entry, AllocError>
-    requires { HasRoom state.old 1 }
-    ensures entry { IfOk result (λ made. made ≡ entry.Write line command.now.may
-        (code_of (answer (last_verdict replay.now.signer) state.old.policies command.now))
-        (after (last_verdict replay.now.signer) state.old.policies command.now).epoch
-        (records_of (last_verdict replay.now.signer) state.old.policies command.now)) }
-    ensures after { OnOk result (state.new ≡ after_event (last_verdict replay.now.signer) state.old (event.Command command.now)) }
+    requires { HasRoom replay.now.script.workers state.old 1 }
+    ensures entry { IfOk result (λ made. made ≡ told_entry phase None
+        (record { number = line; task = Write command.now.may (Ok command.now) })
+        (write_reply (verdicts_of replay.now.script) state.old.policies (Ok command.now))) }
+    ensures after { OnOk result (state.new ≡ with_policies state.old
+        (after_write (verdicts_of replay.now.script) state.old.policies (Ok command.now))) }
 {
+    let before = state.registry().epoch();
     let plan = state
         .registry()
-        .plan(replay.alloc, &replay.signer, command)?;
+        .plan(replay.alloc, replay.signer, command)?;
     let records = command_records(replay.alloc, state.registry(), &plan)?;
     let outcome = commit(state, plan);
-    Ok(Entry::Write {
-        line,
-        may: command.may,
-        code: code_of(&outcome.reply),
-        epoch: outcome.epoch,
-        records,
-    })
+    let code = code_of(&outcome.reply);
+    let may = command.may;
+    Ok(written(phase, line, may, code, outcome.epoch, before, records))
 }
 
 // The entry of a write. One that asks for no command is answered without a step.
 pub(crate) fn write_entry(
     replay: &Replay<'_>,
     state: &mut State,
+    phase: u32,
     line: u32,
     may: bool,
     node: &[u8],
     content: &WriteContent,
 ) -> Result<Entry, AllocError>
-    requires { HasRoom state.old 1 }
-    ensures entry { IfOk result (λ made. made ≡ entry_of
-        (record { line = line; task = Write may node.now content.now })
-        (task_reply replay.now.requests.now state.old (Write may node.now content.now))) }
-    ensures after { OnOk result (state.new ≡ after_task replay.now.requests.now state.old (Write may node.now content.now)) }
+    requires { HasRoom replay.now.script.workers state.old 1 }
+    ensures entry { IfOk result (λ made. made ≡ told_entry phase None
+        (record { number = line; task = Write may (asked_by replay.now.script may node.now content.now) })
+        (write_reply (verdicts_of replay.now.script) state.old.policies
+        (asked_by replay.now.script may node.now content.now))) }
+    ensures after { OnOk result (state.new ≡ with_policies state.old
+        (after_write (verdicts_of replay.now.script) state.old.policies
+        (asked_by replay.now.script may node.now content.now))) }
 {
-    match asked_by(replay.alloc, replay.requests, may, node, content)? {
-        Ok(command) => command_entry(replay, state, line, &command),
-        Err(refusal) => Ok(Entry::Write {
-            line,
-            may,
-            code: refused_code(&refusal),
-            epoch: state.registry().epoch(),
-            records: Lines::from_vec(Vec::new(replay.alloc)),
-        }),
+    match asked_by(replay.alloc, replay.objects.declared(), may, node, content)? {
+        Ok(command) => command_entry(replay, state, phase, line, &command),
+        Err(refusal) => {
+            let epoch = state.registry().epoch();
+            let code = refused_code(&refusal);
+            let none = Lines::from_vec(Vec::new(replay.alloc));
+            Ok(written(phase, line, may, code, epoch, epoch, none))
+        }
     }
 }
 
@@ -121,10 +145,11 @@ pub(crate) fn write_entry(
 pub(crate) fn read_entry(
     alloc: Global,
     state: &State,
+    phase: u32,
     line: u32,
     node: &[u8],
 ) -> Result<Entry, AllocError>
-    ensures { IfOk result (λ made. made ≡ entry_of (record { line = line; task = Read node.now })
+    ensures { IfOk result (λ made. made ≡ told_entry phase None (record { number = line; task = Read node.now })
         (told state.now.policies.epoch (node_read state.now.policies node.now))) }
 {
     let registry = state.registry();
@@ -134,6 +159,7 @@ pub(crate) fn read_entry(
         Err(refusal) => (refused_code(&refusal), None),
     };
     Ok(Entry::Read {
+        phase,
         line,
         code,
         epoch,

@@ -1,17 +1,20 @@
-//! From a request file to its transcript, on the pure machine.
+//! From a request file and the images of its devices to its transcript, on one thread.
 //!
-//! [`replay`] takes the lines of each phase in the order in which they are printed, and makes of each an entry: a write
-//! is a command, which has its records after it; a read is what a node shows; a hook is a claim, which is returned at
-//! once, and has the record of the access after it where one is due.
+//! [`replay`] takes the lines in the order of the file, and makes of each an entry: a write is a command, which has its
+//! records after it; a read is what a node shows; a hook is a claim, which is returned at once, with the record of the
+//! access where one is due and what its file comes to where it is read. The entries of each phase are then put in order.
 #![tactic(auto)]
 
 mod commands;
+mod content;
 mod hooks;
+mod lines;
 mod marks;
-mod phases;
 mod running;
+mod texts;
 
-pub use phases::replay;
+pub use lines::replay;
+
 
 #[cfg(test)]
 mod tests;

@@ -1,19 +1,34 @@
 ghost use Rattle.std.specs.Prelude.{◌≡◌};
-ghost use Rattle.ipe_history.specs.Order.{marks_of};
 
 use ipe_core::{State, TrustList};
 use ipe_image::Image;
-use ipe_script::Requests;
+use ipe_objects::{Images, Objects};
+use ipe_policy::Context;
 use std::alloc::Global;
 use std::marker::Model;
 
-// What all lines have in common: where memory comes from, what the file declares, and the signer that its marks are.
+// What all lines have in common: where memory comes from, what is declared, the images of the devices, the signer that
+// the marks are, and the context of what has no file.
 #[derive(Drop)]
 pub(crate) struct Replay<'a> {
     pub(crate) alloc: Global,
-    pub(crate) requests: &'a Requests,
-    pub(crate) signer: TrustList,
-    ghost marks: { signer ≡ marks_of requests.now },
+    pub(crate) objects: &'a Objects<'a>,
+    pub(crate) images: &'a Images,
+    pub(crate) signer: &'a TrustList,
+    pub(crate) none: Context,
+}
+
+impl<'a> Model for Replay<'a> {
+    ghost use Rattle.std.specs.Prelude.{◌≡◌};
+    ghost use Rattle.ipe_lines.specs.Asked.{no_context};
+    ghost use Rattle.ipe_replay.specs.Setting.{IsReady, Setting};
+
+    ghost Value = { Setting };
+
+    ghost view = { λ s. record { script = s.objects.now.script; images = s.images.now } };
+
+    ghost invariant = { λ s. IsReady (record { script = s.objects.now.script; images = s.images.now })
+        s.objects.now s.signer.now × (s.none ≡ no_context) };
 }
 
 // The machine, and the image of its active policy once a record needed it. It is seen as the machine.

@@ -1,13 +1,10 @@
 -- The lines of a transcript.
 use Rattle.std.specs.Prelude.{ℕ, ℤ, Bool, codes, List, [], ◌∷◌, ◌++◌, if◌then◌else◌, Option, Some, None}
-use Rattle.std.specs.List.{flat_map}
 use Rattle.std.specs.Fmt.{decimal, signed_decimal}
 use Rattle.hex.specs.Hex.{encode_lower}
 use Rattle.ipe_policy.specs.declared.evaluation.Which.{Which}
 use Rattle.ipe_policy.specs.declared.evaluation.Which.TheVariants as which
 use Rattle.ipe_machine.specs.declared.event.Place.{Place}
-use Rattle.ipe_transcript.specs.declared.entry.Entry.{Entry}
-use Rattle.ipe_transcript.specs.declared.entry.Entry.TheVariants as entry
 use Rattle.line_words.specs.Lines.{line_text}
 
 -- who wrote: one who may administer, or one who may not
@@ -63,11 +60,3 @@ hook_text line worker code place serial by =
 abbrev pub access_line : Option (List ℕ) → List ℕ
 access_line None = []
 access_line (Some record_line) = line_text record_line
-
--- an entry's line, with its record lines after it
-abbrev pub entry_text : Entry → List ℕ
-entry_text (entry.Write line may code epoch records) =
-    line_text (write_text line may code epoch) ++ flat_map line_text records
-entry_text (entry.Read line code epoch bytes) = line_text (read_text line code epoch bytes)
-entry_text (entry.Hook line worker code place serial by access) =
-    line_text (hook_text line worker code place serial by) ++ access_line access

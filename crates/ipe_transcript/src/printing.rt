@@ -1,65 +1,13 @@
-ghost use Rattle.std.specs.Prelude.{◌≡◌, ◌++◌, IfOk, OnErr, OnOk, string_bytes};
+ghost use Rattle.std.specs.Prelude.{◌≡◌, ◌++◌, IfOk, OnOk, string_bytes};
 ghost use Rattle.std.specs.List.{flat_map};
-ghost use Rattle.ipe_transcript.specs.Lines.{access_line, acted_text, by_text, bytes_text, entry_text, hook_text, place_text, read_text, serial_text, told_text, who_text, write_text};
+ghost use Rattle.ipe_transcript.specs.Lines.{access_line, acted_text, by_text, bytes_text, hook_text, place_text, read_text, serial_text, told_text, who_text, write_text};
 ghost use Rattle.line_words.specs.Lines.{line_text};
 
-use crate::Entry;
 use ipe_audit::LineBytes;
 use ipe_machine::Place;
 use ipe_policy::Which;
 use ipe_words::Bytes;
 use std::alloc::{AllocError, Global};
-
-/// Appends an entry's line, and after it the lines of its records, each with a line feed. Out of memory, nothing is
-/// appended.
-pub fn print_entry(alloc: Global, out: &mut Vec<u8>, entry: &Entry) -> Result<(), AllocError>
-    ensures ok { OnOk result (out.new.items ≡ out.old.items ++ entry_text entry.now) }
-    ensures err { OnErr result (out.new.items ≡ out.old.items) }
-{
-    let mut text = Vec::new(alloc);
-    append_entry(alloc, &mut text, entry)?;
-    out.extend_from_slice(&text)
-}
-
-fn append_entry(alloc: Global, out: &mut Vec<u8>, entry: &Entry) -> Result<(), AllocError>
-    ensures { OnOk result (out.new.items ≡ out.old.items ++ entry_text entry.now) }
-{
-    match entry {
-        Entry::Write {
-            line,
-            may,
-            code,
-            epoch,
-            records,
-        } => {
-            let written = write_text(alloc, *line, *may, *code, *epoch)?;
-            append_line(out, written.as_bytes())?;
-            append_lines(out, records.as_slice())
-        }
-        Entry::Read {
-            line,
-            code,
-            epoch,
-            bytes,
-        } => {
-            let read = read_text(alloc, *line, *code, *epoch, bytes)?;
-            append_line(out, read.as_bytes())
-        }
-        Entry::Hook {
-            line,
-            worker,
-            code,
-            place,
-            serial,
-            by,
-            access,
-        } => {
-            let asked = hook_text(alloc, *line, *worker, *code, *place, *serial, *by)?;
-            append_line(out, asked.as_bytes())?;
-            append_access(out, access)
-        }
-    }
-}
 
 pub fn append_line(out: &mut Vec<u8>, line: &[u8]) -> Result<(), AllocError>
     ensures { OnOk result (out.new.items ≡ out.old.items ++ line_text line.now) }

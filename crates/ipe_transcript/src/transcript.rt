@@ -1,5 +1,4 @@
 //! A transcript: the entries of a request file's phases, in their order.
-// These types stand beside the crate's `Entry` until the replay gives them.
 
 ghost use Rattle.std.specs.Prelude.{◌≡◌, IfOk};
 ghost use Rattle.ipe_transcript.specs.Entries.{actor_of, line_of, phase_of};

@@ -32,6 +32,7 @@ type=1404 enforcing=0 old_enforcing=1 auid=4294967295 ses=4294967295 enabled=1 o
 line=15 admin code=0 epoch=2
 line=16 w1 code=0 epoch=2 count=0 policy=1 by=rule:1
 type=1420 ipe_op=EXECUTE ipe_hook=BPRM_CHECK enforcing=0 pid=1 comm=\"init\" path=\"/init\" dev=\"rootfs\" ino=2 rule=\"op=EXECUTE boot_verified=TRUE action=DENY\"
+content sha256:5891b5b522d5df086d0ff0b110fbd9d21bb4fc7163af34d08286a2e846f6be03
 end
 ";
 
@@ -64,10 +65,12 @@ type=1422 policy_name=\"a\" policy_version=1.0.0 policy_digest=sha256:a12fb4d91e
 line=13 admin code=0 epoch=1
 type=1421 old_active_pol_name=? old_active_pol_version=? old_policy_digest=? new_active_pol_name=\"a\" new_active_pol_version=1.0.0 new_policy_digest=sha256:a12fb4d91e8e66793020762fce63ca775103cd329a72d6a4734d290181673120 auid=4294967295 ses=4294967295 lsm=ipe res=1
 line=14 w1 code=0 epoch=1 count=0 policy=1 by=rule:1
+content sha256:5891b5b522d5df086d0ff0b110fbd9d21bb4fc7163af34d08286a2e846f6be03
 phase 2
 line=16 admin code=0 epoch=2
 line=17 w1 code=0 epoch=2 count=0 policy=1 by=rule:1
 type=1420 ipe_op=EXECUTE ipe_hook=BPRM_CHECK enforcing=1 pid=1 comm=\"init\" path=\"/init\" dev=\"rootfs\" ino=2 rule=\"op=EXECUTE boot_verified=TRUE action=ALLOW\"
+content sha256:5891b5b522d5df086d0ff0b110fbd9d21bb4fc7163af34d08286a2e846f6be03
 line=18 w1 code=-13 epoch=2 count=1 policy=1 by=global
 type=1420 ipe_op=FIRMWARE ipe_hook=KERNEL_LOAD enforcing=1 pid=3 comm=\"udev\" path=? dev=? ino=? rule=\"DEFAULT action=DENY\"
 end

@@ -97,6 +97,7 @@ type=1421 old_active_pol_name=\"a\" old_active_pol_version=1.0.0 old_policy_dige
 line=28 admin code=-116 epoch=2
 line=29 admin code=-22 epoch=2
 line=30 w1 code=0 epoch=2 count=0 policy=2 by=global
+content sha256:5891b5b522d5df086d0ff0b110fbd9d21bb4fc7163af34d08286a2e846f6be03
 end
 ";
 

@@ -28,6 +28,8 @@ mod access_tests;
 #[cfg(test)]
 mod command_tests;
 #[cfg(test)]
+mod device_tests;
+#[cfg(test)]
 mod limit_tests;
 #[cfg(test)]
 mod lint_tests;

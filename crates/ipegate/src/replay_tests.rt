@@ -32,6 +32,7 @@ line=13 admin code=0 epoch=1
 type=1421 old_active_pol_name=? old_active_pol_version=? old_policy_digest=? new_active_pol_name=\"a\" new_active_pol_version=1.0.0 new_policy_digest=sha256:a12fb4d91e8e66793020762fce63ca775103cd329a72d6a4734d290181673120 auid=4294967295 ses=4294967295 lsm=ipe res=1
 phase 2
 line=15 w1 code=0 epoch=1 count=0 policy=1 by=rule:1
+content sha256:5891b5b522d5df086d0ff0b110fbd9d21bb4fc7163af34d08286a2e846f6be03
 end
 ";
 
@@ -59,6 +60,7 @@ line=11 admin code=-126 epoch=0
 line=12 admin code=-2 epoch=0
 phase 2
 line=14 w1 code=0 epoch=0 count=0 policy=- by=-
+content sha256:5891b5b522d5df086d0ff0b110fbd9d21bb4fc7163af34d08286a2e846f6be03
 end
 ";
 
@@ -90,6 +92,7 @@ line=14 admin code=0 epoch=1
 type=1421 old_active_pol_name=? old_active_pol_version=? old_policy_digest=? new_active_pol_name=\"a\" new_active_pol_version=1.0.0 new_policy_digest=sha256:cf56b5b30096777c0929a9a059503da440428821ab80ae821d704a91fa2ca464 auid=4294967295 ses=4294967295 lsm=ipe res=1
 phase 2
 line=16 w1 code=0 epoch=1 count=0 policy=1 by=rule:1
+content sha256:5891b5b522d5df086d0ff0b110fbd9d21bb4fc7163af34d08286a2e846f6be03
 end
 ";
 
@@ -112,15 +115,19 @@ fn replayed(
 
 #[test]
 fn inputs_have_their_answers(rt: HostRuntime) -> Result<(), Fail> {
-    let other_workers = "ipe-requests 1\nworkers 2\nend\n";
+    let without_phases = "ipe-requests 1\nworkers 30\nend\n";
+    let too_many_workers = "ipe-requests 1\nworkers 31\nend\n";
     let cut_short = "ipe-requests 1\nworkers 1\n";
+    let unknown = "ipe-requests 1\nworkers 1\nmark policy trusted text a\nend\n";
     for (input, status, answer) in [
         (FIRST_CHECK, 0, FIRST_CHECK_ANSWER),
         (UNMARKED, 0, UNMARKED_ANSWER),
         (FIRST_MATCH, 0, FIRST_MATCH_ANSWER),
-        (other_workers, 3, "refused line 2: NotYet\n"),
-        (cut_short, 3, "refused line 3: NotYet\n"),
-        ("", 3, "refused line 1: NotYet\n"),
+        (without_phases, 0, "ipe-transcript 1\nend\n"),
+        (too_many_workers, 3, "refused line 2: Number\n"),
+        (cut_short, 3, "refused line 3: Unended\n"),
+        (unknown, 3, "refused line 3: Unknown\n"),
+        ("", 3, "refused line 1: Unended\n"),
     ] {
         let (found, written) = replayed(rt.alloc(), input.as_bytes(), &[], &[])?;
         assert_eq!(rt; found, status, "{input}");
@@ -196,6 +203,9 @@ const BOOT_RULE: &str = "op=EXECUTE boot_verified=TRUE action=ALLOW";
 
 const ALLOWED: &str = "code=0 epoch=1 count=0 policy=1 by=rule:1";
 
+const READ: &str = "code=0 epoch=1 count=0 policy=1 by=rule:1
+content sha256:5891b5b522d5df086d0ff0b110fbd9d21bb4fc7163af34d08286a2e846f6be03";
+
 const DENIED_MPROTECT: &str = "code=-13 epoch=1 count=0 policy=1 by=global
 type=1420 ipe_op=EXECUTE ipe_hook=MPROTECT enforcing=1 pid=5 comm=\"ld\" path=? dev=? ino=? rule=\"DEFAULT action=DENY\"";
 
@@ -259,7 +269,7 @@ fn each_kind_has_its_operation(rt: HostRuntime) -> Result<(), Fail> {
         let input = with_rule(rt.alloc(), rule.as_str(), hook.as_str())?;
         let (status, written) = answered(rt.alloc(), &["replay"], input.as_bytes())?;
         assert_eq!(rt; status, 0, "{kind}");
-        let expected = with_answer(rt.alloc(), ALLOWED)?;
+        let expected = with_answer(rt.alloc(), READ)?;
         assert!(rt; written.as_slice().ends_with(expected.as_bytes()), "{kind}");
     }
     Ok(())

@@ -1,6 +1,0 @@
-pub mod Order
-pub mod Events
-pub mod Printed
-pub mod Transcript
-pub mod Spelled
-pub mod Worded
