@@ -1,4 +1,4 @@
-"""A small appliance, made of the programs of this machine: images, hash trees, digests and policies, and the TOML file of them."""
+"""A small appliance, made of the programs of this machine: images, hash trees, digests, policies, and the TOML file of them."""
 
 import glob
 import hashlib
@@ -19,6 +19,7 @@ LEAST, MOST = 10_000, 160_000
 BLOCK = 4_096
 IMAGE_BLOCKS = 1_536
 DESCRIPTOR = 256
+SEAL = 65_536
 
 
 def bytes_of(seed, size):
@@ -52,7 +53,7 @@ def release(root, version):
 
 
 def image(root, path, blocks=IMAGE_BLOCKS):
-    """Makes an ext4 image of a folder. What the file system keeps for itself comes first, so that files find room in one piece."""
+    """Makes an ext4 image of a folder. What the file system keeps for itself comes first, so that files stay in one piece."""
     tools.run("mke2fs", "-q", "-t", "ext4", "-b", str(BLOCK), "-O", "^has_journal,^resize_inode", "-E", "packed_meta_blocks=1",
               "-d", str(root), str(path), str(blocks))
 
@@ -64,18 +65,18 @@ def verity(data, hashes, *options):
 
 
 def seals(folder, files):
-    """Writes descriptors and trees of files, one after another, to one device; returns the places and the digests."""
-    places, digests, device = [], [], b""
-    for file in files:
+    """Writes the descriptor and the tree of each file to one device, at the places that the TOML file names, and returns what
+    fsverity prints of each."""
+    told, device = [], b""
+    for number, file in enumerate(files):
         descriptor, tree = folder / "descriptor", folder / "tree"
         printed, _ = tools.run("fsverity", "digest", f"--out-descriptor={descriptor}", f"--out-merkle-tree={tree}", str(file))
-        digests.append(printed)
-        places.append(len(device))
-        device += descriptor.read_bytes()[:DESCRIPTOR] + tree.read_bytes()
+        told.append(printed)
+        device = device.ljust(number * SEAL, b"\0") + descriptor.read_bytes()[:DESCRIPTOR] + tree.read_bytes()
         descriptor.unlink()
         tree.unlink()
     write(folder / "seals.img", device)
-    return places, digests
+    return told
 
 
 def spoil(data, path):
@@ -98,19 +99,18 @@ def make(folder):
     write(folder / "release-1.verity", first.encode())
     second = verity(folder / "release-2.img", folder / "release-2.img", f"--data-blocks={IMAGE_BLOCKS}",
                     f"--hash-offset={IMAGE_BLOCKS * BLOCK}")
+    write(folder / "release-2.verity", second.encode())
     spoil(folder / "release-2.img", "/usr/bin/sensord")
 
     write(folder / "initial/init", b"#!/bin/sh\nexec /release-2/usr/bin/sensord\n", 0o755)
     for name, size in (("agent", 3 * BLOCK + 12), ("plugin", 70_000), ("downloaded", 9_000)):
         write(folder / "data" / name, b"\x7fELF" + bytes_of(name, size), 0o755)
     image(folder / "data", folder / "data.img", 512)
-    (_, plugin_at), (agent, plugin) = seals(folder, [folder / "data/agent", folder / "data/plugin"])
+    agent, plugin = seals(folder, [folder / "data/agent", folder / "data/plugin"])
     write(folder / "agent.digest", agent.encode())
 
     words = {
         "@ROOT_1@": images.printed_values(first).root,
-        "@ROOT_2@": images.printed_values(second).root,
-        "@PLUGIN_AT@": str(plugin_at),
         "@PLUGIN_DIGEST@": plugin.split()[0].removeprefix("sha256:"),
     }
     for name in ("appliance.toml", "first.policy", "second.policy"):

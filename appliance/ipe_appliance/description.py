@@ -1,4 +1,4 @@
-"""What an appliance is made of: the policies, volumes, files, seals and marks of its TOML file, checked against the format's limits."""
+"""What an appliance is made of: the policies, volumes, files, seals and marks of its TOML file, within the format's limits."""
 
 import contextlib
 import hashlib
@@ -127,6 +127,14 @@ class Reader:
                 self.add_text(key, name, text)
                 self.appliance.names[name] = policy_name(text)
 
+    def digests(self, key, path):
+        """The digests of a file with what veritysetup or fsverity printed."""
+        printed = self.file_bytes(key, path).decode("utf-8", "replace")
+        digests = re.findall(r"^(?:sha256:|Root hash:[ \t]*)?([0-9a-f]{64})\b", printed, re.M)
+        if not digests:
+            raise Mistake(key, f"{path} has no line with a digest, as veritysetup and fsverity print them")
+        return digests
+
     # Devices.
 
     def device(self, table, name, needed=True):
@@ -185,6 +193,11 @@ class Reader:
         root = values.root or table.text("root")
         if root is None:
             raise table.mistake("root", "is missing: a header doesn't hold it, what veritysetup prints does")
+        if root.startswith("@"):
+            digests = self.digests(f"{table.key}.root", root[1:])
+            if len(digests) > 1:
+                raise table.mistake("root", f"{root[1:]} has {len(digests)} digests")
+            root = digests[0]
         if not rules.DIGEST.fullmatch(root.lower()):
             raise table.mistake("root", f"{root!r} is to be 64 hexadecimal digits")
         return root
@@ -292,6 +305,8 @@ class Reader:
             inode = piece.number("ino", 0, rules.INODE, needed=True)
             executable = piece.flag("executable", default=True)
             piece.end()
+            if not rules.PATH.fullmatch(mount + path):
+                raise piece.mistake("path", f"{mount + path!r} is to be {rules.RULES[rules.PATH]}")
             words, reason = line(path, ext4.Found(path, inode, executable, size, at))
             if reason:
                 raise piece.mistake("at", f"{path} can't be named: {reason}")
@@ -437,11 +452,7 @@ class Reader:
         if not isinstance(item, str):
             raise Mistake(key, "is to be a text in quotes")
         if item.startswith("@"):
-            printed = self.file_bytes(key, item[1:]).decode("utf-8", "replace")
-            digests = re.findall(r"^(?:sha256:|Root hash:[ \t]*)?([0-9a-f]{64})\b", printed, re.M)
-            if not digests:
-                raise Mistake(key, f"{item[1:]} has no line with a digest, as veritysetup and fsverity print them")
-            return [(digest, f"hex {digest}") for digest in digests]
+            return [(digest, f"hex {digest}") for digest in self.digests(key, item[1:])]
         if purpose == "policy" and item in self.appliance.texts:
             return [(digest_of(self.appliance.texts[item]), f"text {item}")]
         if purpose == "root" and item in self.appliance.volumes:

@@ -80,10 +80,11 @@ def page(run, title):
     """The page of a run."""
     found = blocks(run.requests)
     return environment().get_template("report.html").render(
-        run=run, title=title, refusal=None, summary=overview.summary(run), states=STATES, count=count, href=links(found), blocks=found,
-        picture=picture.picture(run), head=picture.HEAD, foot=picture.FOOT, bin=picture.BIN, bins=picture.BINS,
+        run=run, title=title, refusal=None, summary=overview.summary(run), states=STATES, count=count, href=links(found),
+        blocks=found, picture=picture.picture(run), head=picture.HEAD, foot=picture.FOOT, bin=picture.BIN, bins=picture.BINS,
         letters=letters(run), files=list(run.files.values()), audits=list(overview.audits(run)),
-        record_count=sum(map(len, run.records.values())), epochs=run.epochs[:overview.EPOCHS], more_epochs=max(0, len(run.epochs) - overview.EPOCHS))
+        record_count=sum(map(len, run.records.values())), epochs=run.epochs[:overview.EPOCHS],
+        more_epochs=max(0, len(run.epochs) - overview.EPOCHS))
 
 
 def refused_page(lines, refusal, title):

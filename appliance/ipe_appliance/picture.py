@@ -1,12 +1,13 @@
-"""The picture of a run: where each mark, band and bar stands. All lengths are in the picture's own units, pixels at its full size."""
+"""The picture of a run: where each mark, band and bar stands. All lengths are in pixels of the picture at its full size."""
 
+import itertools
 from collections import Counter
 from dataclasses import dataclass, field
 
 from .run import STATES
 
 # A column is as wide as is needed to fill FULL, within these bounds.
-COLUMN = 22
+COLUMN = 20
 WIDEST = 40
 FULL = 1_000
 CHARACTER = 6.8
@@ -28,8 +29,8 @@ LETTERS = {"load": "L", "activate": "A", "update": "U", "delete": "D", "enforce"
 class Span:
     """A stretch of the picture with a text: a phase, the time of an active policy, an epoch."""
 
-    x: float
-    width: float
+    x: int
+    width: int
     text: str
     title: str
     line: int | None
@@ -42,7 +43,7 @@ class Span:
 
 @dataclass(frozen=True)
 class Mark:
-    x: float
+    x: int
     y: float
     state: str
     letter: str
@@ -63,7 +64,7 @@ class Lane:
 class Cell:
     """A part of a row of densities that links to its first line."""
 
-    x: float
+    x: int
     title: str
     line: int
 
@@ -80,7 +81,7 @@ class Row:
 
 @dataclass
 class Picture:
-    width: float
+    width: int
     height: float
     dense: bool
     phases: list
@@ -192,12 +193,10 @@ def mark_title(step):
 
 def drawn(run):
     """The picture in which each entry has a mark of its own."""
-    edges = [0.0]
-    for width in widths(run):
-        edges.append(edges[-1] + width)
+    edges = [round(edge) for edge in itertools.accumulate(widths(run), initial=0)]
     rows = [Row(actor, name_of(actor), ROWS_TOP + ROW * at, ROW) for at, actor in enumerate(actors(run.steps))]
     places = {row.actor: row.y + ROW / 2 for row in rows}
-    marks = [Mark((edges[at] + edges[at + 1]) / 2, places[step.action.who], step.state,
+    marks = [Mark(round((edges[at] + edges[at + 1]) / 2), places[step.action.who], step.state,
                   "" if step.action.hook else LETTERS[step.action.verb], mark_title(step), step.action.line)
              for at, step in enumerate(run.steps)]
     phases, policies, epochs = bands(run, edges)
@@ -224,15 +223,15 @@ def density_row(actor, steps, bin_of, top):
         row.lanes.append(Lane(state, base, bars))
     for column, line in sorted(firsts.items()):
         words = ", ".join(f"{counts[state][column]:,} {STATES.get(state, state)}" for state in names if counts[state][column])
-        row.cells.append(Cell(column * BIN, f"{row.label}, lines {min(line, lasts[column])} to {max(line, lasts[column])}: {words}",
-                              line))
+        ends = sorted((line, lasts[column]))
+        row.cells.append(Cell(column * BIN, f"{row.label}, lines {ends[0]} to {ends[1]}: {words}", line))
     return row
 
 
 def densities(run):
     """The picture in which a bar stands for the entries of a bin."""
     total = len(run.steps)
-    edges = [BIN * BINS * at / total for at in range(total + 1)]
+    edges = [round(BIN * BINS * at / total) for at in range(total + 1)]
     rows, top = [], ROWS_TOP
     of_actor = {}
     for at, step in enumerate(run.steps):

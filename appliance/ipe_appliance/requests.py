@@ -35,6 +35,14 @@ def lines_of(appliance, phases):
     yield b"end"
 
 
+def largest(appliance, phases):
+    """The key of the section that has the most bytes."""
+    sizes = {"policies": sum(len(appliance.texts[name]) for name in appliance.names),
+             "initial.files": sum(len(text) for name, text in appliance.texts.items() if name not in appliance.names),
+             "phase": sum(len(line) + 1 for line in phases)}
+    return max(sizes, key=sizes.get)
+
+
 def composed(path):
     """The request file that a TOML file describes, and the files that it leaves out; Refused where there are mistakes."""
     try:
@@ -51,5 +59,6 @@ def composed(path):
         raise Refused(reader.mistakes)
     text = b"".join(line + b"\n" for line in lines_of(appliance, lines))
     if len(text) > rules.REQUESTS_SIZE:
-        raise Refused([Mistake("", f"the request file would have {len(text):,} bytes; it has at most {rules.REQUESTS_SIZE:,}")])
+        raise Refused([Mistake(largest(appliance, lines), f"has the most of the request file's {len(text):,} bytes, which may be at "
+                               f"most {rules.REQUESTS_SIZE:,}")])
     return text, appliance.left_out

@@ -13,7 +13,7 @@ STATES = {
     DENIED: "denied",
     PERMISSIVE: "allowed though denied",
     UNEVALUATED: "not evaluated",
-    CORRUPT: "corrupt content",
+    CORRUPT: "allowed, but corrupt",
 }
 LOADED = re.compile(r'type=1422 policy_name="([^"]*)" policy_version=(\S+) ')
 ACTIVATED = re.compile(r'type=1421 .* new_active_pol_name="([^"]*)" new_active_pol_version=(\S+) ')
@@ -49,7 +49,7 @@ class Policy:
 
 @dataclass
 class Epoch:
-    """A stretch of the printed order in which neither the active policy nor a switch changes; `line` is the command's that began it."""
+    """A stretch in which neither the active policy nor a switch changes; `line` is that of the command that began it."""
 
     number: int
     line: int | None
@@ -94,6 +94,9 @@ class FileAnswers:
 
 @dataclass
 class Run:
+    """All of a run. `counts` and `firsts` have for each state of a hook how many there are, and the line of the first, 0 without
+    one. `records` has the line and the text of each record by the serial of the policy that it is about."""
+
     requests: Requests
     steps: list = field(default_factory=list)
     policies: dict = field(default_factory=dict)
@@ -101,6 +104,7 @@ class Run:
     files: dict = field(default_factory=dict)
     records: dict = field(default_factory=dict)
     counts: Counter = field(default_factory=Counter)
+    firsts: Counter = field(default_factory=Counter)
     refused: int = 0
 
     @property
@@ -119,8 +123,8 @@ class Run:
 
 
 def statements(lines, first):
-    """The statements of a policy that was accepted, by the name that a transcript has for each. `first` is the number of its first
-    line; a policy that has no lines of its own in the request file stands on one line alone, which is `-first`."""
+    """The statements of a policy that was accepted, by the name that a transcript has for each. `first` is the number of its
+    first line; a policy that has no lines of its own in the request file stands on one line alone, which is `-first`."""
     found, rules, header = {}, 0, True
     for offset, line in enumerate(lines):
         words = re.split(r"[ \t\r]+", line.partition("#")[0].strip(" \t\r"))
@@ -229,6 +233,7 @@ class Joiner:
         for record in entry.records:
             self.record(policy, record, entry)
         run.counts[state] += 1
+        run.firsts.setdefault(state, action.line)
         self.epoch.answers[state] += 1
         run.steps.append(Step(entry, action, self.epoch, state))
         file = run.files.setdefault(action.path or NO_FILE, FileAnswers(NO_FILE, None, "", None))

@@ -41,6 +41,11 @@ class Browser(unittest.TestCase):
         self.addCleanup(folder.cleanup)
         self.folder = pathlib.Path(folder.name)
 
+    @classmethod
+    def setUpClass(cls):
+        if not needs.browser_runs():
+            raise unittest.SkipTest("Chromium is there, but it shows no page on this machine")
+
     def page(self, name, requests, transcript):
         (self.folder / name).write_bytes(requests)
         (self.folder / "transcript").write_bytes(transcript)
@@ -50,12 +55,9 @@ class Browser(unittest.TestCase):
     def browser(self, width, scheme, *options):
         frame = self.folder / "frame.html"
         frame.write_text(FRAME.format(page="page.html", width=width, height=HEIGHT))
-        root = ["--no-sandbox"] if os.geteuid() == 0 else []
-        return subprocess.run([needs.BROWSER, "--headless=new", *root, "--disable-gpu", "--hide-scrollbars", "--no-first-run",
-                               f"--user-data-dir={self.folder / 'profile'}", "--allow-file-access-from-files",
-                               f"--blink-settings=preferredColorScheme={SCHEMES[scheme][0]}", "--virtual-time-budget=20000",
-                               f"--window-size={max(width, 500)},{HEIGHT}", *options, frame.as_uri()],
-                              stdout=subprocess.PIPE, stderr=subprocess.DEVNULL, text=True, timeout=300).stdout
+        return needs.run_browser(self.folder, "--allow-file-access-from-files", "--virtual-time-budget=20000",
+                                 f"--blink-settings=preferredColorScheme={SCHEMES[scheme][0]}",
+                                 f"--window-size={max(width, 500)},{HEIGHT}", *options, frame.as_uri())
 
     def seen(self, width, scheme):
         """What the frame says of the page."""

@@ -1,4 +1,4 @@
-"""compose: each mistake is told by its key, what can't be held is left out by name, and the request file is one that the gate takes."""
+"""compose: mistakes are told by their keys, what can't be held is left out by name, and the gate takes the request file."""
 
 import pathlib
 import subprocess

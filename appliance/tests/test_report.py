@@ -101,7 +101,7 @@ class Report(unittest.TestCase):
     def test_the_summary_counts_the_same(self):
         requests, transcript = made.run(400)
         text = self.report(requests, transcript, "--text").stdout
-        for state, name in {"denied": "denied", "unevaluated": "not evaluated", "corrupt": "corrupt content"}.items():
+        for state, name in {"denied": "denied", "unevaluated": "not evaluated", "corrupt": "allowed, but corrupt"}.items():
             self.assertRegex(text, rf"(?m)^ +{self.counted(GREP[state])}  {name}$")
         self.assertIn("content corrupt volume level=0 block=3", text)
         self.assertIn("p 1.1.0, policy 2, brought by line", text)
