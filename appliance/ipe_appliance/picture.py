@@ -161,18 +161,28 @@ def bands(run, edges):
         yield spans
 
 
+def together(held, even):
+    """Neighbouring bands as one, which counts them."""
+    one, last = held[0], held[-1]
+    if one is last:
+        return Span(one.x, one.width, one.text, one.title, one.line, even)
+    title = f"{len(held):,} from {one.title} to {last.title}"
+    return Span(one.x, last.x + last.width - one.x, f"{len(held):,}: {one.text} …", title, one.line, even)
+
+
 def merged(spans, least):
-    """The bands with narrow neighbours taken together, so that each can be seen; their title counts them."""
+    """The bands with those together that are too narrow to be seen alone."""
     found, held = [], []
     for span in spans:
-        held.append(span)
-        width = span.x + span.width - held[0].x
-        if width >= least or span is spans[-1]:
-            one = held[0]
-            title = one.title if len(held) == 1 else f"{len(held):,} from {one.title} to {span.title}"
-            text = one.text if len(held) == 1 else f"{len(held):,}: {one.text} …"
-            found.append(Span(one.x, width, text, title, one.line, len(found) % 2 == 0))
+        if span.width >= least and held:
+            found.append(together(held, len(found) % 2 == 0))
             held = []
+        held.append(span)
+        if span.x + span.width - held[0].x >= least:
+            found.append(together(held, len(found) % 2 == 0))
+            held = []
+    if held:
+        found.append(together(held, len(found) % 2 == 0))
     return found
 
 
