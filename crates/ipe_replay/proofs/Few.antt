@@ -19,8 +19,11 @@ one-byte words = omega (arith, length-append words (10 ∷ []))
 -- a phase has a byte at least
 phase-byte : (phase : Phase) → 1 ≤ length (phase_text phase)
 phase-byte phase =
-    omega (arith, length-append (said_text (line.Phase phase.line)) (flat_map asked_text phase.lines),
-    one-byte (joined (spell_cells (cells (shape_for (line.Phase phase.line))) (values_of (line.Phase phase.line)))))
+    omega (
+      arith,
+      length-append (said_text (line.Phase phase.line)) (flat_map asked_text phase.lines),
+      one-byte (joined (spell_cells (cells (shape_for (line.Phase phase.line))) (values_of (line.Phase phase.line)))),
+    )
 
 -- phases have as many bytes at least as they are
 phases-bytes : (phases : List Phase) → length phases ≤ length (flat_map phase_text phases)
@@ -31,15 +34,26 @@ phases-bytes (phase ∷ phases) =
 -- the last of six texts is no longer than all of them
 last-within : (a b c d e f : List ℕ) → length f ≤ length (concat (a ∷ b ∷ c ∷ d ∷ e ∷ f ∷ []))
 last-within a b c d e f =
-    omega (arith, length-append a (concat (b ∷ c ∷ d ∷ e ∷ f ∷ [])), length-append b (concat (c ∷ d ∷ e ∷ f ∷ [])),
-    length-append c (concat (d ∷ e ∷ f ∷ [])), length-append d (concat (e ∷ f ∷ [])), length-append e (concat (f ∷ [])),
-    length-append f [])
+    omega (
+      arith,
+      length-append a (concat (b ∷ c ∷ d ∷ e ∷ f ∷ [])),
+      length-append b (concat (c ∷ d ∷ e ∷ f ∷ [])),
+      length-append c (concat (d ∷ e ∷ f ∷ [])),
+      length-append d (concat (e ∷ f ∷ [])),
+      length-append e (concat (f ∷ [])),
+      length-append f [],
+    )
 
 pub few-phases : (script : Script) → IsOfFile script → length script.phases ≤ 16777216
 few-phases script of =
     let head = head_text script.workers in
     let body = body_text script in
-    omega (arith, of.few, length-append (head ++ body) (said_text line.End), length-append head body,
-    last-within (flat_map text_text script.texts) (flat_map volume_text script.volumes) (flat_map file_text script.files)
-    (flat_map seal_text script.seals) (flat_map mark_text script.marks) (flat_map phase_text script.phases),
-    phases-bytes script.phases)
+    omega (
+      arith,
+      of.few,
+      length-append (head ++ body) (said_text line.End),
+      length-append head body,
+      last-within (flat_map text_text script.texts) (flat_map volume_text script.volumes) (flat_map file_text script.files)
+          (flat_map seal_text script.seals) (flat_map mark_text script.marks) (flat_map phase_text script.phases),
+      phases-bytes script.phases,
+    )

@@ -67,13 +67,13 @@ pub told-hook : (s : Setting) (phase line worker : ℕ) (m : Machine) (request :
     (option_map (λ (found : Found). found.which) ruling.found)
     (access_of m.policies request subject (object_at (files_in s) path) (context_at (files_in s) path))
     (if reads_file request && int_eq ruling.code (pos 0)
-        then content_at (files_in s) (object_at (files_in s) path) else None)
+    then content_at (files_in s) (object_at (files_in s) path) else None)
     ≡ told_line s phase m (asked.Hook line worker request subject path)
 told-hook s phase line worker m request subject path ruling is =
     ap (λ (r : CoreRuling). entry.Hook phase line worker r.code r.place r.serial
     (option_map (λ (found : Found). found.which) r.found)
     (access_of m.policies request subject (object_at (files_in s) path) (context_at (files_in s) path))
     (if reads_file request && int_eq r.code (pos 0)
-        then content_at (files_in s) (object_at (files_in s) path) else None)) is
+    then content_at (files_in s) (object_at (files_in s) path) else None)) is
     ∙ sym (told-by (files_in s) phase line worker m (evaluated_op request)
     (access_in (files_in s) request subject path) refl)

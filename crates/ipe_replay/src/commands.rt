@@ -101,9 +101,7 @@ fn command_entry(
         (after_write (verdicts_of replay.now.script) state.old.policies (Ok command.now))) }
 {
     let before = state.registry().epoch();
-    let plan = state
-        .registry()
-        .plan(replay.alloc, replay.signer, command)?;
+    let plan = state.registry().plan(replay.alloc, replay.signer, command)?;
     let records = command_records(replay.alloc, state.registry(), &plan)?;
     let outcome = commit(state, plan);
     let code = code_of(&outcome.reply);

@@ -15,6 +15,5 @@ mod texts;
 
 pub use lines::replay;
 
-
 #[cfg(test)]
 mod tests;

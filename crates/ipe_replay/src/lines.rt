@@ -145,7 +145,11 @@ fn transcript_of(replay: &Replay<'_>, requests: &Requests) -> Result<Transcript,
     requests_are_read_of_their_spelling(requests);
     file_order_is_told_in_order();
     let entries = entries_of(replay, requests)?;
-    Transcript::order(replay.alloc, requests.phases.as_slice().len() as u32, entries)
+    Transcript::order(
+        replay.alloc,
+        requests.phases.as_slice().len() as u32,
+        entries,
+    )
 }
 
 /// The transcript of a request file whose devices have these images. The machine replies to its lines in the order of the

@@ -1,5 +1,6 @@
 use super::*;
-use ipe_objects::Images;
+use blk_device::{ImageDevices, NamedBytes};
+use ipe_objects::load_images;
 use ipe_requests::parse_requests;
 use ipe_transcript::print_transcript;
 use std::test::Fail;
@@ -48,7 +49,11 @@ end
 fn a_transcript_has_entries_records_and_contents(rt: HostRuntime) -> Result<(), Fail> {
     let alloc = rt.alloc();
     let requests = parse_requests(alloc, REQUESTS.as_bytes())?;
-    let images = Images::from_vec(Vec::new(alloc));
+    let none = NamedBytes::from_vec(Vec::new(alloc));
+    let mut devices = ImageDevices::new(&none);
+    let images = load_images(alloc, &requests, &mut devices)
+        .ok()
+        .ok_or("images")?;
     let transcript = replay(alloc, &requests, &images)?;
     let text = print_transcript(alloc, &transcript)?;
     assert_eq!(rt; text.as_slice(), ANSWER.as_bytes());

@@ -129,7 +129,10 @@ fn devices_are_refused(rt: HostRuntime) -> Result<(), Fail> {
     let none = NamedBytes::from_vec(Vec::new(alloc));
     let (status, written) = replayed(alloc, REVOKED_ROOT, &none)?;
     assert_eq!(rt; status, 3);
-    assert_eq!(rt; written.as_slice(), b"refused: device z.img: missing\n".as_slice());
+    assert_eq!(rt;
+        written.as_slice(),
+        b"refused: device z.img: missing\n".as_slice()
+    );
     for (size, answer) in [
         (511, "refused: device z.img: too small\n"),
         (16_777_217, "refused: device z.img: too large\n"),
@@ -151,7 +154,8 @@ fn a_corrupt_block_is_named(rt: HostRuntime) -> Result<(), Fail> {
     let items = device(alloc, bytes)?;
     let (status, written) = replayed(alloc, REVOKED_ROOT, &items)?;
     assert_eq!(rt; status, 0);
-    let corrupt = "\nline=36 w1 code=0 epoch=1 count=0 policy=1 by=rule:4\ncontent corrupt volume level=0 block=0\n";
+    let corrupt =
+        "\nline=36 w1 code=0 epoch=1 count=0 policy=1 by=rule:4\ncontent corrupt volume level=0 block=0\n";
     assert!(rt; contains(written.as_slice(), corrupt.as_bytes()));
     Ok(())
 }
@@ -168,7 +172,10 @@ fn a_device_that_fails_is_told(rt: HostRuntime) -> Result<(), Fail> {
     let input = REVOKED_ROOT.as_bytes().to_vec(alloc)?;
     let mut source = MemorySource::new(input, 100, Vec::new(alloc));
     let mut sink = MemorySink::new(alloc, 100, 65_536, Vec::new(alloc))?;
-    let mut devices = MemoryDevices::new(device(alloc, vec![in alloc; 0; 512]?)?, [1].to_vec(alloc)?);
+    let mut devices = MemoryDevices::new(
+        device(alloc, vec![in alloc; 0; 512]?)?,
+        [1].to_vec(alloc)?,
+    );
     let status = run(alloc, &words, &mut source, &mut sink, &mut devices);
     assert_eq!(rt; status.number(), 6);
     assert_eq!(rt; sink.written().len(), 0);
