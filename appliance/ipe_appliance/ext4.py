@@ -37,7 +37,8 @@ def ask(image, commands):
             answers.append([])
         elif answers:
             answers[-1].append(line)
-    faults = [line for line in told.splitlines() if line and not line.startswith("debugfs 1.")]
+    # The first line is the name and the version.
+    faults = [line for line in told.splitlines() if line and not re.match(r"debugfs \d", line)]
     if faults or len(answers) != len(commands):
         raise tools.ToolError(f"debugfs can't read it: {'; '.join(faults) or 'an answer is missing'}")
     return answers

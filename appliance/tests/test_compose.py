@@ -102,8 +102,33 @@ MISTAKES = {
     "a file that is nowhere": ('mmap = "/tool"', 'mmap = "/none"', "phase[2].do[2].mmap"),
     "protection that isn't any": ("prot = 5", 'prot = "5"', "phase[2].do[2].prot"),
     "a comm that is too long": ('comm = "ld"', 'comm = "sixteen_letters_"', "phase[2].do[2].comm"),
-    "too many hooks": ("pid = 9", "pid = 9, times = 150000", "phase[2].do[2].mmap"),
-    "too many bytes to read": ('exec = "all"', 'exec = "/srv/agent", times = 60000', "phase[2].do[1].exec"),
+}
+
+# What is added to the description, the key that is told, and the limit that is named.
+LIMITS = {
+    "policies": ("[policies]\n", "[policies]\n" + "".join(f'q{n} = "p.policy"\n' for n in range(256)), "policies.p", "256"),
+    "devices": ("[seal.", "".join(f'[plain.d{n}]\nimage = "disk{n}.img"\nfiles = []\n' for n in range(7)) + "[seal.",
+                "plain.d6.image", "8"),
+    "volumes": ("[initial]", "".join(f'''[volume.v{n}]
+data = "app.img"
+header = false
+block_size = 512
+data_blocks = 4
+hash_offset = 2048
+salt = "-"
+root = "{ROOT}"
+files = []
+''' for n in range(64)) + "[initial]", "volume.v63", "64"),
+    "files": ('files = [{ path = "/srv', "files = [" + "".join(f'{{ path = "/f{n}", at = 0, size = 1, ino = 1 }}, '
+                                                              for n in range(1022)) + '{ path = "/srv',
+              "plain.vda.files[1023]", "1,024"),
+    "marks": (f'files = ["sha256:{ROOT}"]', "files = [" + ", ".join(f'"{n:064x}"' for n in range(4095)) + "]",
+              "trusted.files[4095]", "4,096"),
+    "phases": ("[[phase]]\ndo = [{ load", "[[phase]]\ndo = []\n" * 999 + "[[phase]]\ndo = [{ load", "phase[1001]", "1,000"),
+    "commands": ('{ load = "p" }', '{ load = "p", times = 100000 }', "phase[1].do[2].activate", "100,000"),
+    "reads": ('{ load = "p" }', '{ read = "policies/p/policy", times = 20000 }', "phase[1].do[1].read", "67,108,864"),
+    "hooks": ("pid = 9", "pid = 9, times = 150000", "phase[2].do[2].mmap", "200,000"),
+    "bytes": ('exec = "all"', 'exec = "/srv/agent", times = 60000', "phase[2].do[1].exec", "1,073,741,824"),
 }
 
 
@@ -134,6 +159,16 @@ class Compose(unittest.TestCase):
                 self.assertEqual(DESCRIPTION.count(old), 1, "what is replaced is to stand there once")
                 ended = self.compose(DESCRIPTION.replace(old, new))
                 told = [line for line in ended.stderr.splitlines() if line.startswith(f"a.toml: {key}: ")]
+                self.assertEqual((len(told), ended.stdout, ended.returncode), (1, "", 3), ended.stderr)
+
+    def test_each_limit_is_told_by_its_key_and_number(self):
+        for number in range(7):
+            (self.folder / f"disk{number}.img").write_bytes(b"device")
+        for name, (old, new, key, limit) in LIMITS.items():
+            with self.subTest(name):
+                self.assertEqual(DESCRIPTION.count(old), 1, "what is replaced is to stand there once")
+                ended = self.compose(DESCRIPTION.replace(old, new))
+                told = [line for line in ended.stderr.splitlines() if line.startswith(f"a.toml: {key}: ") and limit in line]
                 self.assertEqual((len(told), ended.stdout, ended.returncode), (1, "", 3), ended.stderr)
 
     def test_what_is_no_toml_is_told_by_its_place(self):
