@@ -1,7 +1,9 @@
 """What the page and the summary for a terminal tell alike."""
 
+# How much of each is told; how many more there are is told too.
 RECORDS = 400
 EPOCHS = 500
+POLICIES = 200
 
 
 def counted(number, one, many=None):
@@ -20,5 +22,12 @@ def summary(run):
 def audits(run):
     """The records by the policy that they are about, at most RECORDS of each, and how many more there are."""
     for serial, records in sorted(run.records.items(), key=lambda item: item[0] or 0):
+        if (serial or 0) > POLICIES:
+            return
         title = f"{run.policies[serial].title} (policy {serial})" if serial else "without an active policy"
         yield title, records[:RECORDS], max(0, len(records) - RECORDS)
+
+
+def policies(run):
+    """The policies that are told, and how many more there are."""
+    return list(run.policies.values())[:POLICIES], max(0, len(run.policies) - POLICIES)

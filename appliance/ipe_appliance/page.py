@@ -79,12 +79,13 @@ def count(number):
 def page(run, title):
     """The page of a run."""
     found = blocks(run.requests)
+    policies, more_policies = overview.policies(run)
     return environment().get_template("report.html").render(
         run=run, title=title, refusal=None, summary=overview.summary(run), states=STATES, count=count, href=links(found),
         blocks=found, picture=picture.picture(run), head=picture.HEAD, foot=picture.FOOT, bin=picture.BIN, bins=picture.BINS,
         letters=letters(run), files=list(run.files.values()), audits=list(overview.audits(run)),
         record_count=sum(map(len, run.records.values())), epochs=run.epochs[:overview.EPOCHS],
-        more_epochs=max(0, len(run.epochs) - overview.EPOCHS))
+        more_epochs=max(0, len(run.epochs) - overview.EPOCHS), policies=policies, more_policies=more_policies)
 
 
 def refused_page(lines, refusal, title):

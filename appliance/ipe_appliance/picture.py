@@ -12,6 +12,9 @@ WIDEST = 40
 FULL = 1_000
 CHARACTER = 6.8
 PADDING = 14
+# No column is widened for more than this many characters of a text, and no fewer than these are shown of one.
+LONGEST = 32
+SHORTEST = 5
 HEAD = {"phase": 0, "policy": 22, "epoch": 46}
 ROWS_TOP = 74
 ROW = 34
@@ -37,8 +40,12 @@ class Span:
     even: bool
 
     @property
-    def fits(self):
-        return len(self.text) * CHARACTER + 6 <= self.width
+    def label(self):
+        """As much of the text as finds room."""
+        room = int((self.width - 6) / CHARACTER)
+        if len(self.text) <= room:
+            return self.text
+        return self.text[:room - 1] + "…" if room >= SHORTEST else ""
 
 
 @dataclass(frozen=True)
@@ -143,7 +150,7 @@ def widths(run):
     found = [max(COLUMN, min(WIDEST, FULL / len(run.steps)))] * len(run.steps)
     for key, words in headings(run).values():
         for step, first, last in groups(run.steps, key):
-            needed = len(words(step)[0]) * CHARACTER + PADDING
+            needed = min(len(words(step)[0]), LONGEST) * CHARACTER + PADDING
             have = sum(found[first:last])
             if have < needed:
                 for at in range(first, last):

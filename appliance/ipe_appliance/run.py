@@ -1,5 +1,6 @@
 """A run: the request file and its transcript together. Every answer here is one that the transcript has."""
 
+import functools
 import re
 from collections import Counter
 from dataclasses import dataclass, field
@@ -20,6 +21,8 @@ ACTIVATED = re.compile(r'type=1421 .* new_active_pol_name="([^"]*)" new_active_p
 ENFORCED = re.compile(r"type=1404 enforcing=([01]) ")
 DENYING = re.compile(r'type=1420 .*action=DENY"')
 NO_FILE = "(no file)"
+# How many different answers of a file are told.
+ANSWERS = 60
 
 
 @dataclass
@@ -34,13 +37,17 @@ class Statement:
 
 @dataclass
 class Policy:
-    """An accepted policy: its serial, and the line of the command that brought it."""
+    """An accepted policy: its serial, the line of the command that brought it, and its text, as `statements_of` takes it."""
 
     serial: int
     name: str
     version: str
     line: int
-    statements: dict
+    text: tuple
+
+    @functools.cached_property
+    def statements(self):
+        return statements_of(*self.text)
 
     @property
     def title(self):
@@ -91,6 +98,16 @@ class FileAnswers:
     answers: dict = field(default_factory=dict)
     contents: dict = field(default_factory=dict)
 
+    @property
+    def shown(self):
+        """The answers that are told."""
+        return list(self.answers.values())[:ANSWERS]
+
+    @property
+    def more(self):
+        """How many more there are."""
+        return max(0, len(self.answers) - ANSWERS)
+
 
 @dataclass
 class Run:
@@ -122,7 +139,7 @@ class Run:
                 if not content.startswith("sha256:")]
 
 
-def statements(lines, first):
+def statements_of(lines, first):
     """The statements of a policy that was accepted, by the name that a transcript has for each. `first` is the number of its
     first line; a policy that has no lines of its own in the request file stands on one line alone, which is `-first`."""
     found, rules, header = {}, 0, True
@@ -146,7 +163,7 @@ def statements(lines, first):
 
 
 def written_lines(requests, action):
-    """The lines of what a command writes, and the number of the first, as `statements` takes them."""
+    """The lines of what a command writes, and the number of the first, as `statements_of` takes them."""
     kind, word = action.content
     if kind == "text":
         text = requests.texts[word]
@@ -182,8 +199,8 @@ class Joiner:
             loaded = LOADED.match(record)
             if loaded:
                 serial = len(self.run.policies) + 1
-                lines, first = written_lines(self.run.requests, action)
-                self.run.policies[serial] = Policy(serial, loaded[1], loaded[2], action.line, statements(lines, first))
+                text = written_lines(self.run.requests, action)
+                self.run.policies[serial] = Policy(serial, loaded[1], loaded[2], action.line, text)
                 self.serials[loaded[1]] = serial
         if entry.epoch != self.epoch.number:
             self.begin(entry, action)

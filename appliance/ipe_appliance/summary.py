@@ -38,9 +38,11 @@ def files(run):
         line = f"line {file.line}: " if file.line else ""
         seal = f", sealed by line {file.seal}" if file.seal else ""
         yield f"  {file.path}  ({line}{file.place or 'kernel loads, and memory without a file'}{seal})"
-        for answer in file.answers.values():
+        for answer in file.shown:
             times = f" {len(answer.lines):,} times" if len(answer.lines) > 1 else ""
             yield f"    {answer.label}: {STATES[answer.state]}{times}, {answer.by}; {lines_of(answer.lines)}"
+        if file.more:
+            yield f"    and {file.more:,} more kinds of answers"
         if not file.answers:
             yield "    no hook asked"
         for content, lines in file.contents.items():
@@ -49,12 +51,15 @@ def files(run):
 
 def rules(run):
     yield "RULES"
-    for policy in run.policies.values():
+    policies, more = overview.policies(run)
+    for policy in policies:
         yield f"  {policy.title}, policy {policy.serial}, brought by line {policy.line}"
         for statement in policy.statements.values():
             total = sum(statement.answers.values())
             decided = f"{total:,} ({tally(statement.answers)})" if total else "never decided"
             yield f"    {statement.label}, line {statement.line}: {statement.text}: {decided}"
+    if more:
+        yield f"  and {more:,} more policies, whose texts the request file has"
     if not run.policies:
         yield "  the gate took no policy"
 
@@ -67,6 +72,8 @@ def audit(run):
             yield f"    line {line}: {record}"
         if more:
             yield f"    and {more:,} more, which are in the transcript"
+    if overview.policies(run)[1]:
+        yield f"  and the records of {overview.policies(run)[1]:,} more policies, which are in the transcript"
 
 
 def corrupt(run):

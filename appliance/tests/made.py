@@ -1,4 +1,7 @@
-"""Request files and transcripts that are made line by line after docs/FORMATS.md, without the gate."""
+"""Request files, and transcripts in the forms of docs/FORMATS.md, that are made without the gate.
+
+Hooks that aren't evaluated stand where they are asked here, which isn't where the gate prints them.
+"""
 
 HEAD = b"""ipe-requests 1
 workers 4
@@ -18,8 +21,9 @@ mark policy trusted text q
 """
 LOAD = ('type=1422 policy_name="p" policy_version={} policy_digest=sha256:' + "0" * 64 +
         " auid=4294967295 ses=4294967295 lsm=ipe res=1 errno=0")
-ACTIVE = ('type=1421 old_active_pol_name={} new_active_pol_name="p" new_active_pol_version={} new_policy_digest=sha256:' +
-          "0" * 64 + " auid=4294967295 ses=4294967295 lsm=ipe res=1")
+ACTIVE = ("type=1421 old_active_pol_name={} old_active_pol_version={} old_policy_digest={} "
+          'new_active_pol_name="p" new_active_pol_version={} new_policy_digest=sha256:' + "0" * 64 +
+          " auid=4294967295 ses=4294967295 lsm=ipe res=1")
 ACCESS = ('type=1420 ipe_op={} ipe_hook={} enforcing=1 pid=7 comm="{}" path={} dev={} ino={} rule="DEFAULT action=DENY"')
 
 
@@ -38,13 +42,15 @@ def run(hooks, phases=10, comm="sim"):
         answers.append(f"phase {phase + 1}")
         if phase == 0:
             answers += [f"line={ask('admin write new_policy text p')} admin code=0 epoch=0", LOAD.format("1.0.0"),
-                        f"line={ask('admin write policies/p/active echo 1')} admin code=0 epoch=1", ACTIVE.format("?", "1.0.0")]
+                        f"line={ask('admin write policies/p/active echo 1')} admin code=0 epoch=1",
+                        ACTIVE.format("?", "?", "?", "1.0.0")]
             epoch, serial, count = 1, 1, 0
         for number in range(hooks // phases):
             if number == hooks // phases // 2:
                 place = ask("admin write policies/p/update text q")
                 epoch, serial, count = epoch + 1, serial + 1, 0
-                answers += [f"line={place} admin code=0 epoch={epoch}", LOAD.format("1.1.0"), ACTIVE.format('"p"', "1.1.0")]
+                answers += [f"line={place} admin code=0 epoch={epoch}", LOAD.format("1.1.0"),
+                            ACTIVE.format('"p"', "1.0.0", "sha256:" + "0" * 64, "1.1.0")]
             worker = number % 4 + 1
             if number % 10 == 3:
                 place = ask(f"w{worker} mmap 7 {comm} 3 /init")
