@@ -1,5 +1,6 @@
 """The picture of a run: where each mark, band and bar stands. All lengths are in pixels of the picture at its full size."""
 
+import dataclasses
 import itertools
 from collections import Counter
 from dataclasses import dataclass, field
@@ -30,21 +31,23 @@ LETTERS = {"load": "L", "activate": "A", "update": "U", "delete": "D", "enforce"
 
 @dataclass(frozen=True)
 class Span:
-    """A stretch of the picture with a text: a phase, the time of an active policy, an epoch."""
+    """A stretch of the picture with a text, and a short one where that finds no room: a phase, an active policy's time, an epoch."""
 
     x: int
     width: int
     text: str
+    short: str
     title: str
     line: int | None
     even: bool
 
     @property
     def label(self):
-        """As much of the text as finds room."""
-        room = int((self.width - 6) / CHARACTER)
-        if len(self.text) <= room:
-            return self.text
+        """As much as finds room."""
+        room = int((self.width - 4) / CHARACTER)
+        for text in (self.text, self.short):
+            if len(text) <= room:
+                return text
         return self.text[:room - 1] + "…" if room >= SHORTEST else ""
 
 
@@ -124,19 +127,20 @@ def groups(steps, key):
 
 
 def headings(run):
-    """For each kind of band: the key by which steps belong to one, and its text, title and line."""
+    """For each kind of band: the key by which steps belong to one, and its text, short text, title and line."""
     def phase(step):
         number = step.entry.phase
-        return f"phase {number}", f"phase {number}", run.requests.phases[number - 1]
+        return f"phase {number}", str(number), f"phase {number}", run.requests.phases[number - 1]
 
     def policy(step):
         known = step.epoch.policy
-        return (known.title, f"active: {known.title}, policy {known.serial}", known.line) if known else \
-            ("no active policy", "no active policy: everything is allowed", None)
+        if known:
+            return known.title, known.version, f"active: {known.title}, policy {known.serial}", known.line
+        return "no active policy", "none", "no active policy: everything is allowed", None
 
     def epoch(step):
         words = ", ".join([f"epoch {step.epoch.number}", *switches(step.epoch)])
-        return words, words, step.epoch.line
+        return words, str(step.epoch.number), words, step.epoch.line
 
     return {
         "phase": (lambda step: step.entry.phase, phase),
@@ -163,8 +167,7 @@ def bands(run, edges):
     for key, words in headings(run).values():
         spans = []
         for number, (step, first, last) in enumerate(groups(run.steps, key)):
-            text, title, line = words(step)
-            spans.append(Span(edges[first], edges[last] - edges[first], text, title, line, number % 2 == 0))
+            spans.append(Span(edges[first], edges[last] - edges[first], *words(step), number % 2 == 0))
         yield spans
 
 
@@ -172,9 +175,9 @@ def together(held, even):
     """Neighbouring bands as one, which counts them."""
     one, last = held[0], held[-1]
     if one is last:
-        return Span(one.x, one.width, one.text, one.title, one.line, even)
+        return dataclasses.replace(one, even=even)
     title = f"{len(held):,} from {one.title} to {last.title}"
-    return Span(one.x, last.x + last.width - one.x, f"{len(held):,}: {one.text} …", title, one.line, even)
+    return Span(one.x, last.x + last.width - one.x, f"{len(held):,}: {one.text} …", "…", title, one.line, even)
 
 
 def merged(spans, least):
