@@ -30,6 +30,11 @@ pub room-most : (need : ℕ) (o : Option (List ℕ)) → IsSomeAnd o (HasRoom ne
 room-most need None room = absurd room
 room-most need (Some bytes) room = omega (arith, room.enough, room.few)
 
+-- and no more than its bytes
+pub room-enough : (need : ℕ) (o : Option (List ℕ)) → IsSomeAnd o (HasRoom need) → need ≤ length (unwrap_or o [])
+room-enough need None room = absurd room
+room-enough need (Some bytes) room = room.enough
+
 -- a device that has room has room for what ends on it
 pub room-for : (need end : ℕ) (o : Option (List ℕ)) → IsSomeAnd o (HasRoom need) → end ≤ length (unwrap_or o [])
     → IsSomeAnd o (HasRoom end)

@@ -7,3 +7,9 @@ mod Sizes
 mod Sealing
 mod Checking
 mod Parts
+mod Tables
+mod Blocks
+mod ImageBytes
+mod FileBytes
+mod HashSays
+mod Undamaged

@@ -7,3 +7,4 @@ pub mod Contexts
 pub mod Contents
 pub mod Places
 pub mod Ready
+pub mod Law

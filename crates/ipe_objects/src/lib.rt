@@ -7,6 +7,7 @@
 
 mod declared;
 mod images;
+mod laws;
 mod line;
 mod names;
 mod objects;
@@ -17,6 +18,10 @@ mod view;
 
 pub use declared::Declared;
 pub use images::{Images, ImagesError, load_images};
+pub use laws::{hashed_files_are_the_images, undamaged_files_are_hashed};
 pub use objects::Objects;
 pub use reading::read_file;
 pub use view::View;
+
+#[cfg(test)]
+mod tests;
