@@ -1,6 +1,8 @@
 """compose: mistakes are told by their keys, what can't be held is left out by name, and the gate takes the request file."""
 
+import hashlib
 import pathlib
+import re
 import subprocess
 import tempfile
 import unittest
@@ -208,6 +210,48 @@ class Compose(unittest.TestCase):
         self.assertRegex(ended.stdout, r"(?m)^file /empty volume app 0 0 \d+$")
         self.assertRegex(ended.stderr, "left out: /whole of app: it has a hole at its block 1")
         self.assertRegex(ended.stderr, "left out: /hole of app: it has a hole at its block 0")
+
+    @needs.tools("mke2fs", "debugfs", "veritysetup")
+    @needs.gate
+    def test_the_gate_reads_the_bytes_of_files_of_images(self):
+        root, size = self.folder / "root", 256 * demonstration.BLOCK
+        files = {"/one": demonstration.bytes_of("one", 9_000), "/two": demonstration.bytes_of("two", 40_000), "/none": b""}
+        for path, content in files.items():
+            demonstration.write(root / path[1:], content)
+        wanted = {f"/app{path}": hashlib.sha256(content).hexdigest() for path, content in files.items()}
+        # How the tree is made, and how the description tells where it is.
+        trees = {
+            "a header": ([], "app.hash", 'hash = "app.hash"\nroot = "@printed"'),
+            "no header": (["--no-superblock"], "app.hash", 'hash = "app.hash"\nheader = false\nprinted = "printed"'),
+            "the data image": ([f"--hash-offset={size}"], "app.img", f'hash_offset = {size}\nprinted = "printed"'),
+        }
+        for block in (512, 4096):
+            for name, (options, hashes, keys) in trees.items():
+                with self.subTest(block=block, tree=name):
+                    for image in ("app.img", "app.hash"):
+                        (self.folder / image).unlink(missing_ok=True)
+                    (self.folder / "app.hash").touch()
+                    demonstration.image(root, self.folder / "app.img", 256)
+                    printed = demonstration.verity(self.folder / "app.img", self.folder / hashes, *options,
+                                                   f"--data-block-size={block}", f"--hash-block-size={block}",
+                                                   f"--data-blocks={size // block}")
+                    (self.folder / "printed").write_text(printed)
+                    self.assertEqual(self.digests(f'''[volume.app]
+data = "app.img"
+mount = "/app"
+{keys}
+[[phase]]
+do = [{{ worker = 1, read = "all", kind = "firmware" }}]
+'''), wanted)
+
+    def digests(self, description):
+        """The digest that the gate tells of each file that is read."""
+        composed = self.compose(description)
+        self.assertEqual((composed.stderr, composed.returncode), ("", 0))
+        lines = composed.stdout.splitlines()
+        replayed = subprocess.run([needs.GATE, "replay"], cwd=self.folder, input=composed.stdout, stdout=subprocess.PIPE, text=True)
+        told = re.findall(r"^line=(\d+) w1 .*\ncontent sha256:(\w+)$", replayed.stdout, re.M)
+        return {lines[int(line) - 1].split()[-1]: digest for line, digest in told}
 
     @needs.tools(*demonstration.TOOLS)
     @needs.gate
