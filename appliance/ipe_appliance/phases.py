@@ -4,7 +4,7 @@ import fnmatch
 from dataclasses import dataclass, field
 
 from . import rules
-from .description import INITIAL, Reader
+from .reader import INITIAL, Reader
 from .settings import Mistake
 
 COMMANDS = ("load", "activate", "update", "delete", "enforce", "success_audit", "read", "write")

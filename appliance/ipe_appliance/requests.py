@@ -3,9 +3,9 @@
 import pathlib
 import tomllib
 
-from . import rules
-from .description import Reader
+from . import description, rules
 from .phases import Phases
+from .reader import Reader
 from .settings import Mistake, Table
 
 
@@ -52,7 +52,8 @@ def composed(path):
     except (tomllib.TOMLDecodeError, UnicodeDecodeError) as error:
         raise Refused([Mistake("", f"is no TOML: {error}")]) from None
     reader = Reader(document, pathlib.Path(path).parent)
-    appliance = reader.read()
+    appliance = reader.appliance
+    description.read(reader)
     # The files of sections with mistakes aren't known, so that phases would only repeat what is told already.
     lines = [] if reader.mistakes else Phases(reader).read()
     if reader.mistakes:
