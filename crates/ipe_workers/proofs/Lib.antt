@@ -1,0 +1,4 @@
+pub mod Recording
+pub mod Contents
+pub mod Hooking
+pub mod Adding

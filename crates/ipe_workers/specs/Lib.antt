@@ -1,0 +1,4 @@
+pub mod Prepared
+pub mod Ruled
+pub mod Passes
+pub mod Workers

@@ -1,0 +1,15 @@
+//! The workers of a running gate, each with a pass of its own, and what they do with the lines of a request file's phase.
+//!
+//! [`Worker::run`] runs those lines of a phase that are the worker's own: each is a hook, whose record is made of what
+//! its own claim found, and after which the file is read where it is allowed.
+#![tactic(auto)]
+
+mod answering;
+mod pace;
+mod running;
+mod work;
+mod worker;
+
+pub use pace::{NoPace, Pace};
+pub use work::Work;
+pub use worker::Worker;
