@@ -1,1 +1,3 @@
 pub mod Passes
+pub mod Answers
+pub mod Replacing
