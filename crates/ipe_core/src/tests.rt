@@ -149,11 +149,21 @@ fn events_are_replied_to_one_after_another(rt: HostRuntime) -> Result<(), Fail> 
     Ok(())
 }
 
-// Two machines that have come equally far, one by steps and one by runs.
+// Two machines of one signer that have come equally far, one by steps and one by runs.
 #[derive(Drop)]
 struct Machines {
+    signer: TrustList,
     stepped: State,
     run: State,
+}
+
+// Two new machines for one pass, of whose signer this text is trusted.
+fn machines_that_trust(alloc: Global, text: &str) -> Result<Machines, Fail> {
+    Ok(Machines {
+        signer: signer_of(alloc, text, &[(Purpose::Policy, Verdict::Trusted)])?,
+        stepped: State::new(alloc, 1)?,
+        run: State::new(alloc, 1)?,
+    })
 }
 
 impl Machines {
@@ -162,43 +172,58 @@ impl Machines {
         &mut self,
         rt: &impl Abort,
         alloc: Global,
-        signer: &TrustList,
         event: Event,
         reply: Reply,
     ) -> Result<(), Fail> {
         assert!(rt; self.stepped.allows(&event));
-        assert_eq!(rt; step(alloc, signer, &mut self.stepped, &event)?, reply);
+        assert_eq!(rt;
+            step(alloc, &self.signer, &mut self.stepped, &event)?,
+            reply
+        );
         assert!(rt; self.run.allows(&event));
         let events = Events::from_vec(vec![in alloc; event]?);
-        let replies = run_events(alloc, signer, &mut self.run, &events)?;
+        let replies = run_events(alloc, &self.signer, &mut self.run, &events)?;
         assert_eq!(rt; replies.as_slice(), [reply].as_slice());
         Ok(())
     }
-}
 
-// What one who may administer asks for.
-fn command(act: Act) -> Event {
-    Event::Command(Command { may: true, act })
+    // Both reply to an administrator's write that it is done, at this epoch.
+    fn do_write(
+        &mut self,
+        rt: &impl Abort,
+        alloc: Global,
+        write: Write,
+        epoch: u16,
+        done: Done,
+    ) -> Result<(), Fail> {
+        let event = Event::Command(Command {
+            may: true,
+            act: act_of(alloc, write)?,
+        });
+        let reply = Reply::Command(CoreOutcome {
+            epoch,
+            reply: Ok(done),
+        });
+        self.reply_alike(rt, alloc, event, reply)
+    }
+
+    // Both rule so on the check of a boot file.
+    fn rule_on_boot_file(
+        &mut self,
+        rt: &impl Abort,
+        alloc: Global,
+        ruling: CoreRuling,
+    ) -> Result<(), Fail> {
+        let claim = boot_file_check()?;
+        self.reply_alike(rt, alloc, claim, Reply::Claimed(ruling))
+    }
 }
 
 // The smallest whole story. Each line of the policy's text ends with its line feed.
 #[test]
 fn a_policy_is_loaded_and_activated_and_rules_on_a_boot_file(rt: HostRuntime) -> Result<(), Fail> {
     let alloc = rt.alloc();
-    let signer = signer_of(alloc, A, &[(Purpose::Policy, Verdict::Trusted)])?;
-    let load = command(act_of(alloc, Write::Load(A))?);
-    let activation = command(act_of(alloc, Write::Activate("a", "1\n"))?);
-    let claim = boot_file_check()?;
-    let give_back = Event::Return { pass: 0 };
-    let loaded = Reply::Command(CoreOutcome {
-        epoch: 0,
-        reply: Ok(Done::Loaded),
-    });
-    let activated = Reply::Command(CoreOutcome {
-        epoch: 1,
-        reply: Ok(Done::Activated),
-    });
-    let allowed = Reply::Claimed(CoreRuling {
+    let allowed = CoreRuling {
         code: 0,
         place: Some(Place { epoch: 1, count: 0 }),
         serial: Some(1),
@@ -208,16 +233,12 @@ fn a_policy_is_loaded_and_activated_and_rules_on_a_boot_file(rt: HostRuntime) ->
         }),
         enforce: true,
         record_due: false,
-    });
-    let mut machines = Machines {
-        stepped: State::new(alloc, 1)?,
-        run: State::new(alloc, 1)?,
     };
-    machines.reply_alike(&rt, alloc, &signer, load, loaded)?;
-    machines.reply_alike(&rt, alloc, &signer, activation, activated)?;
-    machines.reply_alike(&rt, alloc, &signer, claim, allowed)?;
-    machines.reply_alike(&rt, alloc, &signer, give_back, Reply::Returned)?;
-    Ok(())
+    let mut machines = machines_that_trust(alloc, A)?;
+    machines.do_write(&rt, alloc, Write::Load(A), 0, Done::Loaded)?;
+    machines.do_write(&rt, alloc, Write::Activate("a", "1\n"), 1, Done::Activated)?;
+    machines.rule_on_boot_file(&rt, alloc, allowed)?;
+    machines.reply_alike(&rt, alloc, Event::Return { pass: 0 }, Reply::Returned)
 }
 
 #[test]

@@ -1,6 +1,7 @@
+ghost use Rattle.ipe_objects.specs.Devices.{AreImages};
 ghost use Rattle.ipe_signer.specs.declared.signer.Verdict.TheVariants.{Trusted};
 
-use crate::{ImagesError, Objects, View, load_images, read_file};
+use crate::{Images, ImagesError, Objects, View, load_images, read_file};
 use blk_device::{MemoryDevices, NamedBytes};
 use ipe_policy::Signed;
 use ipe_requests::{Requests, parse_requests};
@@ -8,6 +9,7 @@ use ipe_signer::{Purpose, Signer, Verdict};
 use ipe_transcript::Content;
 use line_words::{Bytes, hex_bytes};
 use std::alloc::{AllocError, Global};
+use std::process::Abort;
 use std::test::Fail;
 
 // A text, four data blocks with their tree, a block that is its own tree, and a sealed file on a plain device.
@@ -111,19 +113,29 @@ fn add(
     Ok(())
 }
 
-// The devices, with one bit of the byte at a place turned on the device of a name.
-fn devices(alloc: Global, flipped: &str, place: usize) -> Result<NamedBytes, Fail> {
+// The device that holds the sealed file, its descriptor and its tree.
+fn disk(alloc: Global) -> Result<Vec<u8>, Fail> {
     let mut disk = sealed(alloc)?;
     disk.extend_from_slice(&spelled(alloc, SEAL_DESCRIPTOR, 256)?)?;
     disk.extend_from_slice(&spelled(alloc, SEAL_TREE, 1024)?)?;
-    let devices = [
-        ("app.img", pattern(alloc)?),
-        ("app.hash", spelled(alloc, APP_TREE, 512)?),
-        ("z.img", vec![in alloc; 0; 512]?),
-        ("disk", disk),
-    ];
+    Ok(disk)
+}
+
+// The bytes of the device of this name.
+fn device(alloc: Global, name: &str) -> Result<Vec<u8>, Fail> {
+    match name {
+        "app.img" => Ok(pattern(alloc)?),
+        "app.hash" => spelled(alloc, APP_TREE, 512),
+        "z.img" => Ok(vec![in alloc; 0; 512]?),
+        _ => disk(alloc),
+    }
+}
+
+// The devices, with one bit of the byte at a place turned on the device of a name.
+fn devices(alloc: Global, flipped: &str, place: usize) -> Result<NamedBytes, Fail> {
     let mut items = Vec::new(alloc);
-    for (name, mut bytes) in devices {
+    for name in ["app.img", "app.hash", "z.img", "disk"] {
+        let mut bytes = device(alloc, name)?;
         if name == flipped {
             match bytes.get_mut(place) {
                 Some(byte) => *byte ^= 1,
@@ -135,7 +147,27 @@ fn devices(alloc: Global, flipped: &str, place: usize) -> Result<NamedBytes, Fai
     Ok(NamedBytes::from_vec(items))
 }
 
-// What a file comes to: the hash, or what fails.
+// What a file comes to over the images of these requests: the hash, or what fails.
+fn read_over(
+    alloc: Global,
+    requests: &Requests,
+    images: &Images,
+    path: &str,
+) -> Result<Result<[u8; 32], (&'static str, u8, u64)>, Fail>
+    requires { AreImages requests.now images.now }
+{
+    let objects = Objects::build(alloc, &TrustsAll, requests, images)?;
+    let mut view = View::new(alloc, &objects)?;
+    let content = read_file(alloc, &objects, images, &mut view, path.as_bytes())?;
+    Ok(match content {
+        Content::Hash(digest) => Ok(digest),
+        Content::VolumeCorrupt { level, block } => Err(("volume", level, block)),
+        Content::FileCorrupt { level, block } => Err(("file", level, block)),
+        Content::BadDescriptor { byte } => Err(("descriptor", 0, u64::from(byte))),
+    })
+}
+
+// What a file comes to over these devices.
 fn read(
     alloc: Global,
     items: NamedBytes,
@@ -144,15 +176,7 @@ fn read(
     let requests = requests(alloc)?;
     let mut devices = MemoryDevices::new(items, Vec::new(alloc));
     let images = load_images(alloc, &requests, &mut devices)?;
-    let objects = Objects::build(alloc, &TrustsAll, &requests, &images)?;
-    let mut view = View::new(alloc, &objects)?;
-    let content = read_file(alloc, &objects, &images, &mut view, path.as_bytes())?;
-    Ok(match content {
-        Content::Hash(digest) => Ok(digest),
-        Content::VolumeCorrupt { level, block } => Err(("volume", level, block)),
-        Content::FileCorrupt { level, block } => Err(("file", level, block)),
-        Content::BadDescriptor { byte } => Err(("descriptor", 0, u64::from(byte))),
-    })
+    read_over(alloc, &requests, &images, path)
 }
 
 #[test]
@@ -203,11 +227,60 @@ fn the_first_thing_that_fails_is_told(rt: HostRuntime) -> Result<(), Fail> {
     Ok(())
 }
 
-fn digest_of(signed: Option<&Signed>) -> Option<(&[u8], bool)> {
-    match signed {
-        Some(signed) => Some((signed.digest.bytes.as_slice(), signed.signed)),
-        None => None,
+// This digest is told, signed or not, or none is.
+fn assert_signed(
+    rt: &impl Abort,
+    alloc: Global,
+    found: Option<&Signed>,
+    wanted: Option<(&str, bool)>,
+) -> Result<(), Fail> {
+    let Some((digits, signed)) = wanted else {
+        assert!(rt; found.is_none());
+        return Ok(());
+    };
+    let found = found.ok_or("a digest")?;
+    assert_eq!(rt;
+        found.digest.bytes.as_slice(),
+        spelled(alloc, digits, 32)?.as_slice()
+    );
+    assert_eq!(rt; found.signed, signed);
+    Ok(())
+}
+
+// The context of the file of a path has this.
+fn assert_context(
+    rt: &impl Abort,
+    alloc: Global,
+    objects: &Objects,
+    path: &str,
+    (boot, dm, fs): (bool, Option<(&str, bool)>, Option<(&str, bool)>),
+) -> Result<(), Fail> {
+    let context = objects.context_of(path.as_bytes()).ok_or("a context")?;
+    assert_eq!(rt; context.boot, boot, "at {path}");
+    assert_signed(rt, alloc, context.dm.as_ref(), dm)?;
+    assert_signed(rt, alloc, context.fs.as_ref(), fs)
+}
+
+// The contexts of the files over the images of these requests. A root is signed where the table has the option.
+fn assert_contexts(
+    rt: &impl Abort,
+    alloc: Global,
+    requests: &Requests,
+    images: &Images,
+) -> Result<(), Fail>
+    requires { AreImages requests.now images.now }
+{
+    let objects = Objects::build(alloc, &TrustsAll, requests, images)?;
+    for (path, wanted) in [
+        ("/init", (true, None, None)),
+        ("/tool", (false, Some((APP_ROOT, false)), None)),
+        ("/zero", (false, Some((ZERO_DIGEST, true)), None)),
+        ("/sealed", (false, None, Some((SEAL_DIGEST, true)))),
+    ] {
+        assert_context(rt, alloc, &objects, path, wanted)?;
     }
+    assert!(rt; objects.context_of(b"/other").is_none());
+    Ok(())
 }
 
 #[test]
@@ -216,25 +289,7 @@ fn contexts_are_those_of_the_lines(rt: HostRuntime) -> Result<(), Fail> {
     let requests = requests(alloc)?;
     let mut devices = MemoryDevices::new(devices(alloc, "", 0)?, Vec::new(alloc));
     let images = load_images(alloc, &requests, &mut devices)?;
-    let objects = Objects::build(alloc, &TrustsAll, &requests, &images)?;
-    let root = spelled(alloc, APP_ROOT, 32)?;
-    let zero = spelled(alloc, ZERO_DIGEST, 32)?;
-    let seal = spelled(alloc, SEAL_DIGEST, 32)?;
-
-    // A root is signed where the table has the option.
-    for (path, boot, dm, fs) in [
-        ("/init", true, None, None),
-        ("/tool", false, Some((root.as_slice(), false)), None),
-        ("/zero", false, Some((zero.as_slice(), true)), None),
-        ("/sealed", false, None, Some((seal.as_slice(), true))),
-    ] {
-        let context = objects.context_of(path.as_bytes()).ok_or("a context")?;
-        assert_eq!(rt; context.boot, boot, "at {path}");
-        assert_eq!(rt; digest_of(context.dm.as_ref()), dm, "at {path}");
-        assert_eq!(rt; digest_of(context.fs.as_ref()), fs, "at {path}");
-    }
-    assert!(rt; objects.context_of(b"/other").is_none());
-    Ok(())
+    assert_contexts(&rt, alloc, &requests, &images)
 }
 
 // Why the devices of these names and sizes aren't loaded, and the name of the one for which that is.
@@ -253,31 +308,35 @@ fn refused(alloc: Global, sizes: &[(&str, usize)]) -> Result<Option<(&'static st
     })
 }
 
+// The devices of these names and sizes aren't loaded, for this reason and the device of this name.
+fn assert_refused(
+    rt: &impl Abort,
+    alloc: Global,
+    sizes: &[(&str, usize)],
+    (why, name): (&str, &str),
+) -> Result<(), Fail> {
+    let (found, device) = refused(alloc, sizes)?.ok_or("refused")?;
+    assert_eq!(rt; (found, device.as_slice()), (why, name.as_bytes()));
+    Ok(())
+}
+
 // The devices are app.img, app.hash, z.img and disk in the order of their naming.
 #[test]
 fn the_first_device_that_cannot_be_loaded_is_named(rt: HostRuntime) -> Result<(), Fail> {
     let alloc = rt.alloc();
-    let (why, name) = refused(alloc, &[("disk", 1), ("app.hash", 512)])?.ok_or("refused")?;
-    assert_eq!(rt; (why, name.as_slice()), ("missing", b"app.img".as_slice()));
-    let (why, name) = refused(alloc, &[("disk", 1), ("app.img", 2048), ("app.hash", 511)])?.ok_or(
-        "refused",
-    )?;
-    assert_eq!(rt;
-        (why, name.as_slice()),
-        ("too small", b"app.hash".as_slice())
-    );
+    let sizes = [("disk", 1), ("app.hash", 512)];
+    assert_refused(&rt, alloc, &sizes, ("missing", "app.img"))?;
+    let sizes = [("disk", 1), ("app.img", 2048), ("app.hash", 511)];
+    assert_refused(&rt, alloc, &sizes, ("too small", "app.hash"))?;
     let sizes = [("z.img", 16_777_217), ("app.img", 2048), ("app.hash", 512)];
-    let (why, name) = refused(alloc, &sizes)?.ok_or("refused")?;
-    assert_eq!(rt; (why, name.as_slice()), ("too large", b"z.img".as_slice()));
+    assert_refused(&rt, alloc, &sizes, ("too large", "z.img"))?;
     let sizes = [
         ("disk", 1755),
         ("app.img", 2048),
         ("app.hash", 512),
         ("z.img", 512),
     ];
-    let (why, name) = refused(alloc, &sizes)?.ok_or("refused")?;
-    assert_eq!(rt; (why, name.as_slice()), ("too small", b"disk".as_slice()));
-    Ok(())
+    assert_refused(&rt, alloc, &sizes, ("too small", "disk"))
 }
 
 #[test]
