@@ -9,10 +9,10 @@ use Rattle.hash_tree.specs.Hash.{sha256_hash}
 use Rattle.hash_tree.specs.Shape.{IsHashBlockSize}
 use Rattle.hash_tree.specs.Tree.{fan_out}
 use Rattle.hash_tree.proofs.Numbers.{div_ceil_is, div_ceil_none}
-use Rattle.fsv_tree.specs.Blocks.{is_block_size}
+use Rattle.fsv_tree.specs.Blocks.{is_file_block_size}
 
 -- the sizes of blocks, as numbers
-pub size_cases : (size : ℕ) (P : ℕ → Type 0) → P 1024 → P 2048 → P 4096 → IsTrue (is_block_size size) → P size
+pub size_cases : (size : ℕ) (P : ℕ → Type 0) → P 1024 → P 2048 → P 4096 → IsTrue (is_file_block_size size) → P size
 size_cases size P a b c is = elim (or_cases _ (eqb size 4096) is) [
   | inr last ↦ subst P (sym (eqb-true size 4096 last)) c
   | inl more ↦ elim (or_cases _ (eqb size 2048) more) [
@@ -22,7 +22,7 @@ size_cases size P a b c is = elim (or_cases _ (eqb size 4096) is) [
 ]
 
 -- a size that blocks may have, hash blocks may have
-pub hash_size : (size : ℕ) → IsTrue (is_block_size size) → IsHashBlockSize sha256_hash size
+pub hash_size : (size : ℕ) → IsTrue (is_file_block_size size) → IsHashBlockSize sha256_hash size
 hash_size size is = record {
   even = size_cases size (λ x. fan_out sha256_hash x * sha256_hash.size ≡ x) refl refl refl is;
   wide = size_cases size (λ x. 4 ≤ fan_out sha256_hash x) (omega arith) (omega arith) (omega arith) is;
@@ -30,7 +30,7 @@ hash_size size is = record {
 }
 
 -- a file has at most 16,384 blocks
-pub few_blocks : (bytes size : ℕ) → bytes ≤ 16777216 → IsTrue (is_block_size size) → div_ceil bytes size ≤ 16384
+pub few_blocks : (bytes size : ℕ) → bytes ≤ 16777216 → IsTrue (is_file_block_size size) → div_ceil bytes size ≤ 16384
 few_blocks bytes size few is =
     let least : 1024 ≤ size = size_cases size (λ x. 1024 ≤ x) (omega arith) (omega arith) (omega arith) is in
     elim (cases_lt 0 bytes) [

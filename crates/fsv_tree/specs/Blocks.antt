@@ -3,8 +3,8 @@ use Rattle.std.specs.Prelude.{ℕ, List, [], ◌∷◌, Bool, ◌||◌, ◌==◌
 use Rattle.hash_tree.specs.Tree.{filled}
 
 -- the sizes that a block may have, in bytes
-abbrev pub is_block_size : ℕ → Bool
-is_block_size size = ((size == 1024) || (size == 2048)) || (size == 4096)
+abbrev pub is_file_block_size : ℕ → Bool
+is_file_block_size size = ((size == 1024) || (size == 2048)) || (size == 4096)
 
 -- log2 of such a size
 abbrev pub log_of : ℕ → ℕ

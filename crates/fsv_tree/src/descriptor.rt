@@ -1,4 +1,4 @@
-ghost use Rattle.fsv_tree.specs.Blocks.{is_block_size, log_of};
+ghost use Rattle.fsv_tree.specs.Blocks.{is_file_block_size, log_of};
 ghost use Rattle.fsv_tree.specs.Descriptor.{IsFirstBreak, IsSound, said_by, spelling};
 ghost use Rattle.fsv_tree.specs.File.{file_digest};
 ghost use Rattle.fsv_tree.specs.Kept.{MayBeSaid};
@@ -71,7 +71,7 @@ impl Descriptor {
 
     // The descriptor of a file.
     pub(crate) fn new(block_size: u32, salt: &[u8], size: u64, root: [u8; 32]) -> Descriptor
-        requires block_size { IsTrue (is_block_size block_size) }
+        requires block_size { IsTrue (is_file_block_size block_size) }
         requires salt { length salt.now ≤ 32 }
         requires few { size ≤ 16777216 }
         requires root { size ≡ 0 → root ≡ replicate 32 0 }
@@ -132,7 +132,7 @@ impl Descriptor {
     /// The size of a block in bytes: 1,024, 2,048 or 4,096.
     pub fn block_size(&self) -> u32
         ensures value { result ≡ 2 ^ self.now.log }
-        ensures one_of { IsTrue (is_block_size result) }
+        ensures one_of { IsTrue (is_file_block_size result) }
     {
         match self.log {
             10 => 1024,

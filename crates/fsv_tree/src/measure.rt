@@ -1,4 +1,4 @@
-ghost use Rattle.fsv_tree.specs.Blocks.{is_block_size};
+ghost use Rattle.fsv_tree.specs.Blocks.{is_file_block_size};
 ghost use Rattle.fsv_tree.specs.File.{described, file_root, file_tree};
 ghost use Rattle.std.specs.Prelude.{◌≡◌, ◌≤◌, length, IsTrue, IfOk};
 
@@ -48,7 +48,7 @@ pub fn measure_bytes(
     salt: &[u8],
 ) -> Result<Measured, AllocError>
     requires few { length bytes.now ≤ 16777216 }
-    requires size { IsTrue (is_block_size block_size) }
+    requires size { IsTrue (is_file_block_size block_size) }
     requires salt { length salt.now ≤ 32 }
     ensures { IfOk result (λ measured. measured ≡ record {
       descriptor = described bytes.now block_size salt.now;
@@ -66,7 +66,7 @@ pub fn measure_bytes(
 // The root and the stored tree of a file.
 fn hash_file(alloc: Global, bytes: &[u8], block_size: u32, salt: &[u8]) -> Result<Tree, AllocError>
     requires few { length bytes.now ≤ 16777216 }
-    requires size { IsTrue (is_block_size block_size) }
+    requires size { IsTrue (is_file_block_size block_size) }
     requires salt { length salt.now ≤ 32 }
     ensures root { IfOk result (λ tree. tree.root.items ≡ file_root block_size salt.now bytes.now) }
     ensures stored { IfOk result (λ tree. tree.stored.items ≡ file_tree block_size salt.now bytes.now) }

@@ -11,7 +11,7 @@ use Rattle.hash_tree.proofs.Numbers.{div_ceil_none}
 use Rattle.blk_device.specs.Contents.{Contents, content}
 use Rattle.stored_tree.specs.Checked.{CheckedBlocksAreOfTheImage}
 use Rattle.stored_tree.specs.Stored.{IsStored, end_of}
-use Rattle.fsv_tree.specs.Blocks.{is_block_size, log_of}
+use Rattle.fsv_tree.specs.Blocks.{is_file_block_size, log_of}
 use Rattle.fsv_tree.specs.Descriptor.{DescriptorParts, IsSound, breaks, said_by}
 use Rattle.fsv_tree.specs.File.{DigestsTellDescriptors, RootsAreOfTrees, described, file_root}
 use Rattle.fsv_tree.specs.Kept.{MayBeSaid}
@@ -87,12 +87,12 @@ is-accepted images seal size descriptor room few is =
 
 -- ---- bytes that have a digest
 
-log-between : (size : ℕ) → IsTrue (is_block_size size) → (10 ≤ log_of size) × (log_of size ≤ 12)
+log-between : (size : ℕ) → IsTrue (is_file_block_size size) → (10 ≤ log_of size) × (log_of size ≤ 12)
 log-between size is =
     size_cases size (λ (n : ℕ). (10 ≤ log_of n) × (log_of n ≤ 12)) (omega arith, omega arith) (omega arith, omega arith)
     (omega arith, omega arith) is
 
-power-of : (size : ℕ) → IsTrue (is_block_size size) → 2 ^ log_of size ≡ size
+power-of : (size : ℕ) → IsTrue (is_file_block_size size) → 2 ^ log_of size ≡ size
 power-of size is = size_cases size (λ (n : ℕ). 2 ^ log_of n ≡ n) refl refl refl is
 
 -- the descriptor of bytes says what a descriptor may say
@@ -116,7 +116,7 @@ some-bytes (suc n) size i positive within = omega arith
 
 -- the tree of a file that isn't empty is one that devices store
 pub file-stored : (seal : SealLine) (descriptor : DescriptorParts) (size i : ℕ) → seal.at + 256 ≤ 16777216
-    → IsAccepted descriptor size → size ≤ 16777216 → IsTrue (is_block_size (file_block_size descriptor))
+    → IsAccepted descriptor size → size ≤ 16777216 → IsTrue (is_file_block_size (file_block_size descriptor))
     → i < blocks_of descriptor → IsStored (tree_of_file (sealed_file seal descriptor))
 file-stored seal descriptor size i start is few sized within = record {
   size = hash_size (file_block_size descriptor) sized;
@@ -133,14 +133,14 @@ module _ (of_image : CheckedBlocksAreOfTheImage) (root_some : RootsAreOfTrees) (
   file = sealed_file seal descriptor
 
   -- bytes whose descriptor is the same
-  of-same : (other : List ℕ) (size : ℕ) (salt : List ℕ) → IsTrue (is_block_size size)
+  of-same : (other : List ℕ) (size : ℕ) (salt : List ℕ) → IsTrue (is_file_block_size size)
       → described other size salt ≡ descriptor
       → (bytes ≡ other) ⊎ Any (FileCollides images file bytes other) (range_with_len 0 (blocks_of descriptor))
   of-same other size salt allowed same =
       let wide : size ≡ file_block_size descriptor =
       sym (power-of size allowed) ∙ ap (λ (d : DescriptorParts). 2 ^ d.log) same in
-      let sized : IsTrue (is_block_size (file_block_size descriptor)) =
-      subst (λ (n : ℕ). IsTrue (is_block_size n)) wide allowed in
+      let sized : IsTrue (is_file_block_size (file_block_size descriptor)) =
+      subst (λ (n : ℕ). IsTrue (is_file_block_size n)) wide allowed in
       let positive : 0 < file_block_size descriptor = pow_pos descriptor.log in
       let long : length other ≡ descriptor.size = ap (λ (d : DescriptorParts). d.size) same in
       let root : file_root (file_block_size descriptor) descriptor.salt other ≡ descriptor.root =

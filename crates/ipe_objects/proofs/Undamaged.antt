@@ -19,7 +19,7 @@ use Rattle.stored_tree.specs.Stored.{HoldsTreeOf, IsStored, Stored, held_blocks}
 use Rattle.dmv_tree.specs.Law.{HashBlocksMayHaveThem}
 use Rattle.dmv_volume.specs.Reading.{data_need, hash_need, tree_of_volume}
 use Rattle.dmv_volume.specs.Table.{TableParts}
-use Rattle.fsv_tree.specs.Blocks.{is_block_size}
+use Rattle.fsv_tree.specs.Blocks.{is_file_block_size}
 use Rattle.fsv_tree.specs.Descriptor.{DescriptorParts}
 use Rattle.fsv_file.specs.File.{blocks_of, file_block_size, tree_of_file}
 use Rattle.ipe_transcript.specs.declared.transcript.Content.TheVariants.{Hash}
@@ -124,19 +124,19 @@ module _ (may_have : HashBlocksMayHaveThem) (right : HeldTreesAreRight) (script 
 
 -- ---- a sealed file
 
-power-sized : (log : ℕ) → 10 ≤ log → log ≤ 12 → IsTrue (is_block_size (2 ^ log))
+power-sized : (log : ℕ) → 10 ≤ log → log ≤ 12 → IsTrue (is_file_block_size (2 ^ log))
 power-sized log low high =
     elim (cases_lt 10 log) [
       | inr le ↦
           let same : 10 ≡ log = omega (arith, low, le) in
-          subst (λ (n : ℕ). IsTrue (is_block_size (2 ^ n))) same refl
+          subst (λ (n : ℕ). IsTrue (is_file_block_size (2 ^ n))) same refl
       | inl more ↦ elim (cases_lt 11 log) [
         | inr le ↦
             let same : 11 ≡ log = omega (arith, more, le) in
-            subst (λ (n : ℕ). IsTrue (is_block_size (2 ^ n))) same refl
+            subst (λ (n : ℕ). IsTrue (is_file_block_size (2 ^ n))) same refl
         | inl most ↦
             let same : 12 ≡ log = omega (arith, most, high) in
-            subst (λ (n : ℕ). IsTrue (is_block_size (2 ^ n))) same refl
+            subst (λ (n : ℕ). IsTrue (is_file_block_size (2 ^ n))) same refl
       ]
     ]
 

@@ -9,7 +9,7 @@ use Rattle.blk_device.specs.Contents.{Contents}
 use Rattle.stored_tree.specs.Stored.{HoldsTreeOf, held_path as volume_path}
 use Rattle.dmv_volume.specs.Table.{TableParts}
 use Rattle.dmv_volume.specs.Reading.{data_need, tree_of_volume}
-use Rattle.fsv_tree.specs.Blocks.{block_salt, is_block_size}
+use Rattle.fsv_tree.specs.Blocks.{block_salt, is_file_block_size}
 use Rattle.fsv_tree.specs.Descriptor.{DescriptorParts, spelling}
 use Rattle.fsv_tree.specs.File.{described, file_digest}
 use Rattle.fsv_file.specs.File.{FileParts, blocks_of, file_block_size, path_to, tree_of_file}
@@ -62,7 +62,7 @@ SaysOfVolume script images other bytes = Unit {0}
 
 -- bytes that have a file digest, in blocks of a size and with a salt that a descriptor may have
 pub record HaveFileDigest (digest bytes : List ℕ) (size : ℕ) (salt : List ℕ) : Type 0 where
-  pub may_be : IsTrue (is_block_size size)
+  pub may_be : IsTrue (is_file_block_size size)
   pub short : length salt ≤ 32
   pub few : length bytes < 2 ^ 64
   pub same : file_digest (described bytes size salt) ≡ digest

@@ -3,7 +3,7 @@ use Rattle.std.specs.Prelude.{⊤, ℕ, ◌≤◌, Bool, ◌==◌, codes, if◌t
 use Rattle.std.specs.Option.{option_and_then}
 use Rattle.dmv_tree.specs.Blocks.{is_block_size}
 use Rattle.dmv_tree.specs.Words.{block_size_of, salt_of}
-use Rattle.fsv_tree.specs.Blocks.{is_block_size as is_file_block_size}
+use Rattle.fsv_tree.specs.Blocks.{is_file_block_size}
 use Rattle.ipe_program.specs.declared.asked.Asked.{Asked}
 use Rattle.ipe_program.specs.declared.asked.Asked.TheVariants.{Replay, Lint, Measure, Tree}
 use Rattle.ipe_program.specs.declared.asked.TreePart.{TreePart}

@@ -1,5 +1,5 @@
 ghost use Rattle.std.specs.Prelude.{◌≡◌, ◌≢◌, IfOk, IfSome, IsTrue, None, OnErr, map, string_bytes};
-ghost use Rattle.fsv_tree.specs.Blocks.{is_block_size};
+ghost use Rattle.fsv_tree.specs.Blocks.{is_file_block_size};
 ghost use Rattle.ipe_program.specs.Asked.{HasRule, asked_by, file_block_size_of, measure_by, tree_by};
 ghost use Rattle.ipe_program.specs.Table.{row};
 
@@ -149,7 +149,7 @@ pub fn tree_by(
 
 fn file_block_size_of(word: &[u8]) -> Option<u32>
     ensures size { result ≡ file_block_size_of word.now }
-    ensures rule { IfSome result (λ size. IsTrue (is_block_size size)) }
+    ensures rule { IfSome result (λ size. IsTrue (is_file_block_size size)) }
 {
     block_size_of(word).filter(|size| *size != 512)
 }
