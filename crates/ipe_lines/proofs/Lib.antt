@@ -1,7 +1,7 @@
 pub mod Events
 pub mod Order
 pub mod Each
-pub mod Given
+pub mod Found
 pub mod Within
 pub mod ReadPolicies
 pub mod WholePolicies

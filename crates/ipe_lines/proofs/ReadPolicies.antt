@@ -25,7 +25,7 @@ use Rattle.ipe_parse.specs.Tokens.{◌>>=◌, begins, default_of, digest_of, dig
 use Rattle.ipe_parse.specs.Defaults.{repeats_default}
 use Rattle.ipe_parse.specs.Reading.{SpokenLine, at_line, not_twice, next_statement}
 use Rattle.ipe_policy.specs.Version.{version_of}
-use Rattle.ipe_lines.proofs.Given.{Found, found_either, found_made, found_map, found_on, ok_each, ok_either, ok_found, ok_on}
+use Rattle.ipe_lines.proofs.Found.{Found, found_either, found_made, found_map, found_on, ok_each, ok_either, ok_found, ok_on}
 use Rattle.ipe_lines.proofs.Within.{Whole, both, chain_whole, hex_whole, joined_whole, word_whole, words_whole}
 
 -- what a second step makes of a first value

@@ -39,7 +39,7 @@ use Rattle.ipe_machine.specs.Answer.{Verdicts, after, after_answer, answer, is_s
 use Rattle.ipe_records.specs.Records.{access_by, access_for, access_of, access_under, activation_of, brief_of, change_records, is_access_due, records_of, records_with}
 use Rattle.ipe_lines.specs.Spelled.{line_spells}
 use Rattle.ipe_lines.proofs.Each.{All_both}
-use Rattle.ipe_lines.proofs.Given.{Found, found_and_then, found_made, found_on, get_all}
+use Rattle.ipe_lines.proofs.Found.{Found, found_and_then, found_made, found_on, get_all}
 use Rattle.ipe_lines.proofs.Within.{Whole, both, chain_whole, decimal_whole, hex_whole, then_part, version_whole, words_whole}
 use Rattle.ipe_lines.proofs.ReadPolicies.{IsWholeProperty, IsWholeStatement, op_whole, statement_whole}
 use Rattle.ipe_lines.proofs.WholePolicies.{policy_whole}

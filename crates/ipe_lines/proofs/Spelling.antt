@@ -31,7 +31,7 @@ use Rattle.ipe_weave.specs.Told.{entry_of, told_entry}
 use Rattle.ipe_lines.specs.Asked.{Files}
 use Rattle.ipe_lines.specs.Spelled.{line_spells, spelled, numbers_of}
 use Rattle.ipe_lines.specs.Told.{content_of_line, told_phase, told_phases}
-use Rattle.ipe_lines.proofs.Given.{Found}
+use Rattle.ipe_lines.proofs.Found.{Found}
 use Rattle.ipe_lines.proofs.Within.{Lacks, Whole, both, chain, chain_whole, decimal_lacks, decimal_whole, hex_whole, signed_whole, words_whole}
 use Rattle.ipe_lines.proofs.Records.{AreNamed, AreRecords, IsRecord, IsWholeObject, access_recorded, after_named, command_recorded}
 

@@ -25,7 +25,7 @@ use Rattle.ipe_lines.specs.Asked.{Files, line_of, lines_of, object_at, phases_of
 use Rattle.ipe_lines.specs.Files.{files_of}
 use Rattle.ipe_lines.specs.Told.{TellInOrder}
 use Rattle.ipe_lines.proofs.Each.{each_same}
-use Rattle.ipe_lines.proofs.Given.{Found}
+use Rattle.ipe_lines.proofs.Found.{Found}
 use Rattle.ipe_lines.proofs.Records.{IsWholeObject}
 use Rattle.ipe_lines.proofs.Spelling.{IsWorded}
 use Rattle.ipe_lines.proofs.Within.{Whole, word_whole}

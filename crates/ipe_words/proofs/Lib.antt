@@ -1,2 +1,2 @@
 pub mod Offering
-pub mod Taking
+pub mod ReadSoFar

@@ -1,6 +1,6 @@
 pub mod Cuts
 pub mod Decimals
-pub mod Given
+pub mod Steps
 mod Keys
 pub mod Numbers
 pub mod Places

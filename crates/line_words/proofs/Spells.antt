@@ -11,7 +11,7 @@ use Rattle.hex.specs.Hex.{IsBytes, decode_of, encode_lower, encode_with, lower_d
 use Rattle.hex.proofs.HexLemmas.{decode_of-encode_lower}
 use Rattle.line_words.specs.Lines.{joined, words_of}
 use Rattle.line_words.specs.Words.{hex_of, is_hex, is_lower_hex, is_text}
-use Rattle.line_words.proofs.Given.{when-parts, if-cases}
+use Rattle.line_words.proofs.Steps.{when-parts, if-cases}
 
 -- ---- the words of a line
 

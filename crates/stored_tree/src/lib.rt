@@ -9,7 +9,7 @@ mod law;
 mod path;
 mod reader;
 mod stored;
-mod taking;
+mod walk;
 
 pub use law::{checked_blocks_are_of_the_image, held_trees_are_right};
 pub use path::BlockPath;

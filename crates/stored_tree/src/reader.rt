@@ -6,7 +6,7 @@ ghost use Rattle.stored_tree.specs.Checked.{FailsAt, IsChecked, IsOfImage, IsRig
 ghost use Rattle.stored_tree.specs.Stored.{HasTree, HoldsTreeOf, IsStored, OfBoth, OfHashes, TakenFrom, held_blocks, held_path, levels_of};
 
 use crate::path::MOST_BYTES;
-use crate::taking::{check_data_block, take_hash_blocks};
+use crate::walk::{check_data_block, take_hash_blocks};
 use crate::{BlockPath, StoredTree, checked_blocks_are_of_the_image, held_trees_are_right};
 use blk_device::{Devices, VerityError, read_exact_at};
 use std::alloc::{AllocError, Global};

@@ -1,6 +1,6 @@
 use Rattle.std.proofs.Common.{arith}
 use Rattle.std.proofs.lemmas.Grind.{common_steps}
-use Rattle.ipe_words.proofs.Taking.{LeavesRest-from_took}
+use Rattle.ipe_words.proofs.ReadSoFar.{LeavesRest-from_took}
 use Rattle.ipe_words.proofs.source.read_all.Goals as goal
 
 pub returns-then-limit-len-clause-rest_too_long : goal.returns-then-limit-len-clause-rest_too_long

@@ -1,5 +1,5 @@
 use Rattle.std.proofs.Common.{◌≤◌, ◌-◌, vec_len}
-use Rattle.ipe_words.proofs.Taking.{Took}
+use Rattle.ipe_words.proofs.ReadSoFar.{Took}
 use Rattle.ipe_words.proofs.source.read_all.Given as goal
 
 -- what is in the vector stood before what is left, it is within the limit, and no fault was taken back

@@ -1,7 +1,7 @@
 use Rattle.std.proofs.Common.{◌≡◌, ℕ, suc, ◌+◌, ◌/◌, ◌^◌, ap, sym, ◌∙◌, arith}
 use Rattle.std.proofs.Math.Nat.{div-one, pow-zero}
 use Rattle.hash_tree.proofs.Numbers.{div_power_then}
-use Rattle.stored_tree.proofs.taking.over.Goals as goal
+use Rattle.stored_tree.proofs.walk.over.Goals as goal
 
 pub loop-init : goal.loop-init
 loop-init c = sym (ap (λ (x : ℕ). c.args.i / x) (pow-zero c.args.fan_out) ∙ div-one c.args.i)

@@ -1,5 +1,5 @@
 use Rattle.std.proofs.Common.{◌≡◌, ◌/◌, ◌^◌}
-use Rattle.stored_tree.proofs.taking.over.Given as goal
+use Rattle.stored_tree.proofs.walk.over.Given as goal
 
 -- one division a level
 abbrev pub invariant-loop : goal.invariant-loop

@@ -8,7 +8,7 @@ use Rattle.stored_tree.specs.Checked.{FailsAt}
 use Rattle.stored_tree.specs.Stored.{fan_of, Stored}
 use Rattle.stored_tree.proofs.Places.{block_room, few_before, level_is, next_few}
 use Rattle.stored_tree.proofs.Walking.{after_read, fails, leads_to, next_step, one_more, read_before, right_digest, right_so_far, taken_from, wrong_digest}
-use Rattle.stored_tree.proofs.taking.take_hash_blocks.Goals as goal
+use Rattle.stored_tree.proofs.walk.take_hash_blocks.Goals as goal
 
 pub overflow_add-first : goal.overflow_add-first
 overflow_add-first g c =

@@ -2,7 +2,7 @@ use Rattle.std.proofs.Common.{◌≡◌, ◌≤◌, length}
 use Rattle.std.specs.Prelude.{All}
 use Rattle.stored_tree.specs.Stored.{levels_of}
 use Rattle.stored_tree.proofs.Walking.{AtStep}
-use Rattle.stored_tree.proofs.taking.take_hash_blocks.Given as goal
+use Rattle.stored_tree.proofs.walk.take_hash_blocks.Given as goal
 
 -- the blocks so far are right, the device holds what it held, and no fault was taken back
 abbrev pub invariant-loop-level : goal.invariant-loop-level
