@@ -292,20 +292,25 @@ fn contexts_are_those_of_the_lines(rt: HostRuntime) -> Result<(), Fail> {
     assert_contexts(&rt, alloc, &requests, &images)
 }
 
-// Why the devices of these names and sizes aren't loaded, and the name of the one for which that is.
-fn refused(alloc: Global, sizes: &[(&str, usize)]) -> Result<Option<(&'static str, Bytes)>, Fail> {
+// What is told of a device that isn't loaded: why, and its name.
+fn told(error: ImagesError) -> Option<(&'static str, Bytes)> {
+    match error {
+        ImagesError::Missing { name } => Some(("missing", name)),
+        ImagesError::TooLarge { name } => Some(("too large", name)),
+        ImagesError::TooSmall { name } => Some(("too small", name)),
+        ImagesError::DeviceFault | ImagesError::NoMemory => None,
+    }
+}
+
+// Why the devices of these names and sizes aren't loaded, if they aren't.
+fn refused(alloc: Global, sizes: &[(&str, usize)]) -> Result<Option<ImagesError>, Fail> {
     let requests = requests(alloc)?;
     let mut items = Vec::new(alloc);
     for (name, size) in sizes {
         add(alloc, &mut items, name, vec![in alloc; 0; *size]?)?;
     }
     let mut devices = MemoryDevices::new(NamedBytes::from_vec(items), Vec::new(alloc));
-    Ok(match load_images(alloc, &requests, &mut devices) {
-        Err(ImagesError::Missing { name }) => Some(("missing", name)),
-        Err(ImagesError::TooLarge { name }) => Some(("too large", name)),
-        Err(ImagesError::TooSmall { name }) => Some(("too small", name)),
-        _ => None,
-    })
+    Ok(load_images(alloc, &requests, &mut devices).err())
 }
 
 // The devices of these names and sizes aren't loaded, for this reason and the device of this name.
@@ -315,7 +320,8 @@ fn assert_refused(
     sizes: &[(&str, usize)],
     (why, name): (&str, &str),
 ) -> Result<(), Fail> {
-    let (found, device) = refused(alloc, sizes)?.ok_or("refused")?;
+    let error = refused(alloc, sizes)?.ok_or("refused")?;
+    let (found, device) = told(error).ok_or("a device")?;
     assert_eq!(rt; (found, device.as_slice()), (why, name.as_bytes()));
     Ok(())
 }
