@@ -1,5 +1,5 @@
 -- How runs of a worker's lines add up.
-use Rattle.std.proofs.Common.{◌≡◌, ◌≢◌, ℕ, zero, suc, ◌+◌, ◌<◌, ◌≤◌, ◌^◌, ◌==◌, Bool, true, false, cond, List, [], ◌∷◌, ◌++◌, length, map, take, drop, get_or, Option, Result, Ok, Err, is_ok, refl, sym, ap, subst, ◌∙◌, append_assoc, append-nil, length-append, arith, ne_eqb, eq-eqb, true≢false}
+use Rattle.std.proofs.Common.{◌≡◌, ◌≢◌, ℕ, ◌+◌, ◌<◌, ◌^◌, ◌==◌, Bool, true, false, cond, List, [], ◌∷◌, ◌++◌, length, map, take, drop, get_or, Option, Result, Ok, Err, is_ok, refl, sym, ap, subst, ◌∙◌, append_assoc, append-nil, length-append, arith, ne_eqb, eq-eqb, true≢false}
 use Rattle.std.specs.List.{AllByRecursion}
 use Rattle.std.specs.Result.{IsErr}
 use Rattle.std.proofs.lemmas.List.{length-map, map-append, take-append-drop, take_more}
@@ -8,17 +8,16 @@ use Rattle.blk_device.specs.Contents.{Contents}
 use Rattle.ipe_policy.specs.declared.request.Request.{Request}
 use Rattle.ipe_policy.specs.declared.request.Subject.{Subject}
 use Rattle.ipe_image.specs.declared.hit.Ruling.{Ruling}
-use Rattle.ipe_gate_rule.specs.declared.event.Event.{Event}
 use Rattle.ipe_gate.specs.Seats.{calls_made, slot_held}
 use Rattle.ipe_hooks.specs.Law.{machine_ruling}
 use Rattle.ipe_transcript.specs.declared.transcript.Content.{Content}
 use Rattle.ipe_transcript.specs.declared.transcript.Entry.{Entry}
 use Rattle.ipe_requests.specs.declared.script.PhaseLine.{PhaseLine}
 use Rattle.ipe_requests.specs.declared.script.PhaseLine.TheVariants as asked
-use Rattle.ipe_objects.specs.Ready.{Ready, tables_of}
+use Rattle.ipe_objects.specs.Ready.{Ready}
 use Rattle.ipe_weave.specs.Lines.{Access, Acted, Line, actor_of, line_in, own_lines}
 use Rattle.ipe_weave.specs.Told.{entry_of}
-use Rattle.ipe_lines.specs.Asked.{Files, access_of, line_of, lines_of, verdicts_of}
+use Rattle.ipe_lines.specs.Asked.{access_of, line_of, lines_of, verdicts_of}
 use Rattle.ipe_lines.specs.Told.{content_after, content_of_line, told_phase}
 use Rattle.ipe_workers.specs.declared.worker.Worker.{Worker}
 use Rattle.ipe_workers.specs.Passes.{HasAnswered}

@@ -1,15 +1,13 @@
 -- What the file after a hook comes to.
-use Rattle.std.proofs.Common.{◌≡◌, ℕ, ℤ, pos, ◌&&◌, Bool, true, false, cond, List, [], ◌∷◌, Option, Some, None, is_some, find, refl, sym, ap, subst, ◌∙◌, unwrap_or}
+use Rattle.std.proofs.Common.{◌≡◌, ℕ, ℤ, pos, ◌&&◌, Bool, true, false, cond, List, [], ◌∷◌, Option, Some, None, is_some, find, refl, ap, subst, ◌∙◌, unwrap_or}
 use Rattle.std.specs.Option.{option_map}
 use Rattle.std.specs.Ordering.{int_eq}
 use Rattle.std.proofs.lemmas.Option.{same_Some}
 use Rattle.line_words.specs.Words.{is_text}
 use Rattle.line_words.proofs.Spells.{text-is}
 use Rattle.blk_device.specs.Contents.{Contents}
-use Rattle.ipe_policy.specs.declared.request.Object.{Object}
 use Rattle.ipe_policy.specs.declared.request.Object.TheVariants as object
 use Rattle.ipe_machine.specs.declared.event.CoreRuling.{CoreRuling}
-use Rattle.ipe_transcript.specs.declared.transcript.Content.{Content}
 use Rattle.ipe_requests.specs.Known.{reads_file}
 use Rattle.ipe_requests.specs.declared.script.FileForm.{FileForm}
 use Rattle.ipe_requests.specs.declared.script.FileForm.TheVariants as form

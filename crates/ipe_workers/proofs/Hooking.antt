@@ -13,15 +13,15 @@ use Rattle.ipe_machine.specs.declared.event.CoreRuling.{CoreRuling}
 use Rattle.ipe_gate_rule.specs.declared.event.Event.{Event}
 use Rattle.ipe_gate_rule.specs.declared.event.Event.TheVariants.{Store, Switch, Claim, Return, Look}
 use Rattle.ipe_gate_rule.specs.History.{GoesOnFrom, active_slot}
-use Rattle.ipe_gate_rule.specs.Owners.{is_by_pass, own_events}
+use Rattle.ipe_gate_rule.specs.Owners.{own_events}
 use Rattle.ipe_gate_rule.proofs.Frees.{later_same, later_chain}
 use Rattle.ipe_gate.specs.declared.pass.Pass.{Pass}
-use Rattle.ipe_gate.specs.Seats.{calls_made, mine, seen, slot_held}
+use Rattle.ipe_gate.specs.Seats.{seen, slot_held}
 use Rattle.ipe_hooks.specs.Hooks.{IsHook, IsHookFor, hook_events}
 use Rattle.ipe_hooks.specs.Law.{machine_ruling}
-use Rattle.ipe_weave.specs.Acts.{Act, Since, acts_of, is_claim_of}
+use Rattle.ipe_weave.specs.Acts.{Act, acts_of, is_claim_of}
 use Rattle.ipe_weave.specs.Gate.{gate_basis, image_at, record_by_image, ruling_by_image}
-use Rattle.ipe_weave.specs.Lines.{Access, Acted, Hook, Line, ruled}
+use Rattle.ipe_weave.specs.Lines.{Access, Acted, Hook, ruled}
 use Rattle.ipe_weave.specs.Seats.{WorkerRan}
 use Rattle.ipe_weave.specs.Standing.{ClaimedAt, IsIdle, is_active}
 use Rattle.ipe_weave.proofs.Quiet.{acts_quiet}

@@ -25,8 +25,8 @@ use Rattle.ipe_machine.specs.Machine.{denies, is_due}
 use Rattle.ipe_gate_rule.specs.declared.event.Event.{Event}
 use Rattle.ipe_gate_rule.specs.History.{active_slot, enforce_of, success_of}
 use Rattle.ipe_gate_rule.specs.Regions.{region}
-use Rattle.ipe_hooks.specs.Hooks.{DecidedBy, IsDecision}
-use Rattle.ipe_hooks.specs.Rulings.{found_in, no_ruling}
+use Rattle.ipe_hooks.specs.Hooks.{IsDecision}
+use Rattle.ipe_hooks.specs.Rulings.{found_in}
 use Rattle.ipe_records.specs.Records.{access_by}
 use Rattle.ipe_weave.specs.Gate.{image_at, record_by_image}
 use Rattle.ipe_weave.specs.Lines.{Access}

@@ -2,3 +2,5 @@ pub mod Prepared
 pub mod Ruled
 pub mod Passes
 pub mod Workers
+pub mod Administering
+pub mod Beside

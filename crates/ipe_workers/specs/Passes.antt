@@ -1,5 +1,5 @@
 -- What a pass does at its worker's lines.
-use Rattle.std.specs.Prelude.{◌≡◌, ℕ, ◌+◌, ◌≤◌, List, length}
+use Rattle.std.specs.Prelude.{◌≡◌, ◌+◌, ◌≤◌, List, length}
 use Rattle.ipe_machine.specs.Answer.{Verdicts}
 use Rattle.ipe_gate_rule.specs.History.{GoesOnFrom}
 use Rattle.ipe_gate.specs.declared.pass.Pass.{Pass}

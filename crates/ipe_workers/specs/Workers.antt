@@ -26,6 +26,10 @@ view_of w = w.view
 abbrev pub entries_in : Worker → List Entry
 entries_in w = w.entries.items
 
+-- whether a worker ran all its lines of the latest phase
+abbrev pub is_done : Worker → Bool
+is_done w = w.done
+
 -- those of a phase's lines that are a worker's own
 abbrev pub lines_for : Ready → Contents → ℕ → List PhaseLine → List Line
 lines_for objects images worker lines = own_lines worker (lines_of objects.script (files_in objects images) lines)

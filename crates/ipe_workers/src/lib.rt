@@ -1,15 +1,20 @@
-//! The workers of a running gate, each with a pass of its own, and what they do with the lines of a request file's phase.
+//! The workers of a running gate, each with a pass of its own, and what they and the administrator do with the lines of a
+//! request file's phase.
 //!
 //! [`Worker::run`] runs those lines of a phase that are the worker's own: each is a hook, whose record is made of what
-//! its own claim found, and after which the file is read where it is allowed.
+//! its own claim found, and after which the file is read where it is allowed. [`run_beside`] runs a phase's lines in threads,
+//! those of each worker beside those of the others and of the administrator.
 #![tactic(auto)]
 
+mod administrator;
 mod answering;
+mod beside;
 mod pace;
 mod running;
 mod work;
 mod worker;
 
+pub use beside::run_beside;
 pub use pace::{NoPace, Pace};
 pub use work::Work;
 pub use worker::Worker;

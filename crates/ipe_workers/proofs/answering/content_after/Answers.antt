@@ -1,7 +1,6 @@
-use Rattle.std.proofs.Common.{◌≡◌, pos, true, List, ℕ, Option, Some, is_some, rules, sym, ap, subst, ◌∙◌}
+use Rattle.std.proofs.Common.{◌≡◌, pos, true, List, ℕ, Option, Some, rules, sym, ap, subst, ◌∙◌}
 use Rattle.ipe_hooks.specs.Law.{machine_ruling}
 use Rattle.ipe_requests.specs.Known.{reads_file}
-use Rattle.ipe_requests.specs.Requests.{file_of}
 use Rattle.ipe_requests.specs.Rules.{IsPathOf}
 use Rattle.ipe_objects.specs.Contents.{content_of}
 use Rattle.ipe_lines.specs.Asked.{Files, access_of, object_at}

@@ -1,10 +1,7 @@
-use Rattle.std.proofs.Common.{◌≡◌, ℕ, true, List, Some, sym, ap, ◌∙◌}
-use Rattle.ipe_policy.specs.declared.evaluation.Context.{Context}
+use Rattle.std.proofs.Common.{Some, sym, ap, ◌∙◌}
 use Rattle.ipe_policy.specs.declared.request.Hook.{Hook}
 use Rattle.ipe_policy.specs.declared.request.Object.{Object}
-use Rattle.ipe_policy.specs.declared.statement.Statement.{Statement}
 use Rattle.ipe_policy.specs.Evaluation.{deciding_statement}
-use Rattle.ipe_policy.specs.Request.{evaluated_op}
 use Rattle.ipe_audit.specs.Records.{decided_text}
 use Rattle.ipe_lines.specs.Asked.{access_of}
 use Rattle.ipe_weave.specs.Lines.{Access}

@@ -1,4 +1,4 @@
-use Rattle.std.proofs.Common.{take, arith}
+use Rattle.std.proofs.Common.{arith}
 use Rattle.std.specs.Prelude.{is_ok}
 use Rattle.ipe_requests.specs.Rules.{IsHookOf}
 use Rattle.ipe_workers.proofs.Adding.{each_at, err_no, ready_next, run_more, run_none, run_stop}

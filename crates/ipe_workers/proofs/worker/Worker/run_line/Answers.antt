@@ -33,7 +33,7 @@ returns-in_err-access g c =
     let ran : HookRan (verdicts_of objects.script) hook.place hook.worker c.args.self.now.pass c.ask-ruling.new.pass access c.ask-ruling.result =
     hook_ran c.hooks_are_ruled_at_their_claims.ensures (verdicts_of objects.script) hook.place hook.worker c.args.self.now.pass c.ask-ruling.new.pass access c.ask-ruling.result c.requires.ready.held c.ask-ruling.ensures in
     run_hook objects images work.phase (is_ok r.result) c.args.line.now hook.place hook.worker hook.request hook.subject hook.path c.args.self.now
-    (record { pass = c.ask-ruling.new.pass; view = c.args.self.now.view; entries = c.args.self.now.entries })
+    (record { pass = c.ask-ruling.new.pass; view = c.args.self.now.view; entries = c.args.self.now.entries; done = c.args.self.now.done })
     c.ask-ruling.result hook.is own ran refl (none_made (is_ok r.result) (err_no r.result r.ensures.0))
 
 pub returns-in_err-content : goal.returns-in_err-content
@@ -48,7 +48,7 @@ returns-in_err-content g c =
     let ran : HookRan (verdicts_of objects.script) hook.place hook.worker c.args.self.now.pass c.ask-ruling.new.pass access c.ask-ruling.result =
     hook_ran c.hooks_are_ruled_at_their_claims.ensures (verdicts_of objects.script) hook.place hook.worker c.args.self.now.pass c.ask-ruling.new.pass access c.ask-ruling.result c.requires.ready.held c.ask-ruling.ensures in
     run_hook objects images work.phase (is_ok r.result) c.args.line.now hook.place hook.worker hook.request hook.subject hook.path c.args.self.now
-    (record { pass = c.ask-ruling.new.pass; view = c.content_after.new.view; entries = c.args.self.now.entries })
+    (record { pass = c.ask-ruling.new.pass; view = c.content_after.new.view; entries = c.args.self.now.entries; done = c.args.self.now.done })
     c.ask-ruling.result hook.is own ran c.content_after.ensures.same (none_made (is_ok r.result) (err_no r.result r.ensures.0))
 
 pub returns-in_err-push : goal.returns-in_err-push
@@ -63,7 +63,7 @@ returns-in_err-push g c =
     let ran : HookRan (verdicts_of objects.script) hook.place hook.worker c.args.self.now.pass c.ask-ruling.new.pass access c.ask-ruling.result =
     hook_ran c.hooks_are_ruled_at_their_claims.ensures (verdicts_of objects.script) hook.place hook.worker c.args.self.now.pass c.ask-ruling.new.pass access c.ask-ruling.result c.requires.ready.held c.ask-ruling.ensures in
     run_hook objects images work.phase (is_ok r.result) c.args.line.now hook.place hook.worker hook.request hook.subject hook.path c.args.self.now
-    (record { pass = c.ask-ruling.new.pass; view = c.content_after.new.view; entries = c.push.new.self })
+    (record { pass = c.ask-ruling.new.pass; view = c.content_after.new.view; entries = c.push.new.self; done = c.args.self.now.done })
     c.ask-ruling.result hook.is own ran c.content_after.ensures.same (none_made (is_ok r.result) (err_no r.result r.ensures.0))
 
 pub returns : goal.returns
@@ -78,7 +78,7 @@ returns g c =
     hook_ran c.hooks_are_ruled_at_their_claims.ensures (verdicts_of objects.script) hook.place hook.worker c.args.self.now.pass c.ask-ruling.new.pass access c.ask-ruling.result c.requires.ready.held c.ask-ruling.ensures in
     let made = c.hook_told-entry.ensures ∙ ap (λ (n : ℕ). hook_told work.phase hook.place n c.ask-ruling.result c.in_ok-access.access c.in_ok-content.content) (sym c.if-worker-number.false) in
     run_hook objects images work.phase true c.args.line.now hook.place hook.worker hook.request hook.subject hook.path c.args.self.now
-    (record { pass = c.ask-ruling.new.pass; view = c.content_after.new.view; entries = c.push.new.self })
+    (record { pass = c.ask-ruling.new.pass; view = c.content_after.new.view; entries = c.push.new.self; done = c.args.self.now.done })
     c.ask-ruling.result hook.is own ran c.content_after.ensures.same
     (λ e. (
       c.in_ok-access.access,
