@@ -3,3 +3,7 @@ pub mod Contents
 pub mod Hooking
 pub mod Adding
 pub mod Commanding
+pub mod Rounds
+pub mod Parts
+pub mod Taken
+pub mod Phasing

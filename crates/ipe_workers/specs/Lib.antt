@@ -4,3 +4,5 @@ pub mod Passes
 pub mod Workers
 pub mod Administering
 pub mod Beside
+pub mod Rounds
+pub mod Phases
