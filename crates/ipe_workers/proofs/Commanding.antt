@@ -128,14 +128,15 @@ write-next v p (Err refusal) = omega arith
 pub same_self : (a : Admin) → SameGate a a
 same_self a = record { gate = refl; passes = refl }
 
-same_both : (a m b : Admin) → SameGate a m → SameGate m b → SameGate a b
+pub same_both : (a m b : Admin) → SameGate a m → SameGate m b → SameGate a b
 same_both a m b x y = record { gate = y.gate ∙ x.gate; passes = y.passes ∙ x.passes }
 
--- no line
-pub administered_none : (objects : Ready) (images : Contents) (phase : ℕ) (a : Admin) (old : List Entry) → HasAdministered objects images phase true [] a a old old
-administered_none objects images phase a old = record {
-  some = [];
-  rest = [];
+-- nothing was done: the first of the lines aren't the administrator's, and where it is done there are no others
+nothing_done : (objects : Ready) (images : Contents) (phase : ℕ) (done : Bool) (some rest : List PhaseLine) (a : Admin) (old : List Entry)
+    → lines_for objects images 0 some ≡ [] → (done ≡ true → rest ≡ []) → HasAdministered objects images phase done (some ++ rest) a a old old
+nothing_done objects images phase done some rest a old none all = record {
+  some = some;
+  rest = rest;
   cut = refl;
   acted = [];
   same = same_self a;
@@ -143,26 +144,18 @@ administered_none objects images phase a old = record {
   ran = admin_none (verdicts_of objects.script) a;
   policies = refl;
   serials = omega arith;
-  lines_are = refl;
-  whole = λ e. (refl, sym (append-nil old));
+  lines_are = sym none;
+  whole = λ e. (all e, sym (append-nil old));
 }
+
+-- no line
+pub administered_none : (objects : Ready) (images : Contents) (phase : ℕ) (a : Admin) (old : List Entry) → HasAdministered objects images phase true [] a a old old
+administered_none objects images phase a old = nothing_done objects images phase true [] [] a old refl (λ e. refl)
 
 -- a line that isn't the administrator's
 administered_other : (objects : Ready) (images : Contents) (phase : ℕ) (done : Bool) (line : PhaseLine) (a : Admin) (old : List Entry)
     → (actor_of (line_at objects images line) == 0) ≡ false → HasAdministered objects images phase done (line ∷ []) a a old old
-administered_other objects images phase done line a old other = record {
-  some = line ∷ [];
-  rest = [];
-  cut = refl;
-  acted = [];
-  same = same_self a;
-  later = later_same (admin_seen (gate_in a));
-  ran = admin_none (verdicts_of objects.script) a;
-  policies = refl;
-  serials = omega arith;
-  lines_are = sym (other_one objects images 0 line other);
-  whole = λ e. (refl, sym (append-nil old));
-}
+administered_other objects images phase done line a old other = nothing_done objects images phase done (line ∷ []) [] a old (other_one objects images 0 line other) (λ e. refl)
 
 -- a hook
 pub administered_hook : (objects : Ready) (images : Contents) (phase : ℕ) (line : PhaseLine) (number worker : ℕ) (request : Request) (subject : Subject) (path : Option (List ℕ)) (a : Admin) (old : List Entry)
@@ -174,19 +167,9 @@ administered_hook objects images phase line number worker request subject path a
 -- a line that was not begun
 pub administered_not : (objects : Ready) (images : Contents) (phase : ℕ) (done : Bool) → done ≡ false → (lines : List PhaseLine) (a b : Admin) (old : List Entry) → b ≡ a
     → HasAdministered objects images phase done lines a b old old
-administered_not objects images phase done off lines a b old is = subst (λ (c : Admin). HasAdministered objects images phase done lines a c old old) (sym is) (record {
-  some = [];
-  rest = lines;
-  cut = refl;
-  acted = [];
-  same = same_self a;
-  later = later_same (admin_seen (gate_in a));
-  ran = admin_none (verdicts_of objects.script) a;
-  policies = refl;
-  serials = omega arith;
-  lines_are = refl;
-  whole = λ e. absurd (true≢false (sym e ∙ off));
-})
+administered_not objects images phase done off lines a b old is =
+    subst (λ (c : Admin). HasAdministered objects images phase done lines a c old old) (sym is)
+    (nothing_done objects images phase done [] lines a old refl (λ e. absurd (true≢false (sym e ∙ off))))
 
 -- a write
 pub administered_write : WritesAreLines → (objects : Ready) (images : Contents) (phase : ℕ) (done : Bool) (line : PhaseLine) (number : ℕ) (may : Bool) (node : List ℕ) (content : WriteContent) (a b : Admin) (old new : List Entry) (entry : Entry)

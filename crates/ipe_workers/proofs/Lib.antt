@@ -6,4 +6,5 @@ pub mod Commanding
 pub mod Rounds
 pub mod Parts
 pub mod Taken
+pub mod Stopping
 pub mod Phasing

@@ -1,5 +1,5 @@
 -- What each of the workers did is one part of what was done, and no other's.
-use Rattle.std.proofs.Common.{◌≡◌, ◌≢◌, ℕ, zero, suc, ◌+◌, ◌<◌, ◌≤◌, ◌==◌, Bool, true, false, cond, List, [], ◌∷◌, ◌++◌, length, map, get_or, refl, sym, ap, subst, ◌∙◌, append-nil, arith, ne_eqb, eq-eqb}
+use Rattle.std.proofs.Common.{◌≡◌, ◌≢◌, ℕ, zero, suc, ◌+◌, ◌<◌, ◌==◌, Bool, true, false, cond, List, [], ◌∷◌, ◌++◌, length, map, get_or, refl, sym, ap, subst, ◌∙◌, append-nil, arith, ne_eqb, eq-eqb}
 use Rattle.std.specs.List.{AllByRecursion, flat_map}
 use Rattle.std.proofs.lemmas.Bool.{eqb-true}
 use Rattle.std.proofs.lemmas.List.{map-append}
@@ -102,29 +102,17 @@ nth (part ∷ parts) (suc k) = nth parts k
 part_own : (objects : Ready) (images : Contents) (phase : ℕ) (lines : List PhaseLine) (n : ℕ) (w u : Worker) (part : List Acted) → Part objects images phase lines n w u part → AllOf (n + 1) part
 part_own objects images phase lines n w u part is = all_own (n + 1) (lines_of objects.script (files_in objects images) lines) part is.lines_are
 
--- no part is of an actor below the first worker
-pub parts_below : (objects : Ready) (images : Contents) (phase : ℕ) (lines : List PhaseLine) (n : ℕ) (ws us : List Worker) (parts : List (List Acted)) → Parts objects images phase lines n ws us parts
-    → (j : ℕ) → j ≤ n → own_entries j (joined parts) ≡ []
-parts_below objects images phase lines n [] us [] all j le = refl
-parts_below objects images phase lines n [] us (part ∷ parts) all j le = absurd all
-parts_below objects images phase lines n (w ∷ ws) [] parts all j le = absurd all
-parts_below objects images phase lines n (w ∷ ws) (u ∷ us) [] all j le = absurd all
-parts_below objects images phase lines n (w ∷ ws) (u ∷ us) (part ∷ parts) all j le =
+-- no part is of another actor than the workers
+pub parts_other : (objects : Ready) (images : Contents) (phase : ℕ) (lines : List PhaseLine) (n : ℕ) (ws us : List Worker) (parts : List (List Acted)) → Parts objects images phase lines n ws us parts
+    → (j : ℕ) → ((k : ℕ) → k < length ws → j ≢ n + k + 1) → own_entries j (joined parts) ≡ []
+parts_other objects images phase lines n [] us [] all j other = refl
+parts_other objects images phase lines n [] us (part ∷ parts) all j other = absurd all
+parts_other objects images phase lines n (w ∷ ws) [] parts all j other = absurd all
+parts_other objects images phase lines n (w ∷ ws) (u ∷ us) [] all j other = absurd all
+parts_other objects images phase lines n (w ∷ ws) (u ∷ us) (part ∷ parts) all j other =
     own_both j part (joined parts)
-    ∙ ap (λ (xs : List Acted). xs ++ own_entries j (joined parts)) (own_none (n + 1) j part (λ e. omega (arith, e, le)) (part_own objects images phase lines n w u part all.0))
-    ∙ parts_below objects images phase lines (n + 1) ws us parts all.1 j (omega (arith, le))
-
--- nor of one above the last
-pub parts_above : (objects : Ready) (images : Contents) (phase : ℕ) (lines : List PhaseLine) (n : ℕ) (ws us : List Worker) (parts : List (List Acted)) → Parts objects images phase lines n ws us parts
-    → (j : ℕ) → n + length ws < j → own_entries j (joined parts) ≡ []
-parts_above objects images phase lines n [] us [] all j le = refl
-parts_above objects images phase lines n [] us (part ∷ parts) all j le = absurd all
-parts_above objects images phase lines n (w ∷ ws) [] parts all j le = absurd all
-parts_above objects images phase lines n (w ∷ ws) (u ∷ us) [] all j le = absurd all
-parts_above objects images phase lines n (w ∷ ws) (u ∷ us) (part ∷ parts) all j le =
-    own_both j part (joined parts)
-    ∙ ap (λ (xs : List Acted). xs ++ own_entries j (joined parts)) (own_none (n + 1) j part (λ e. omega (arith, e, le)) (part_own objects images phase lines n w u part all.0))
-    ∙ parts_above objects images phase lines (n + 1) ws us parts all.1 j (omega (arith, le))
+    ∙ ap (λ (xs : List Acted). xs ++ own_entries j (joined parts)) (own_none (n + 1) j part (λ e. other 0 (omega arith) (omega (arith, e))) (part_own objects images phase lines n w u part all.0))
+    ∙ parts_other objects images phase lines (n + 1) ws us parts all.1 j (λ k lt e. other (suc k) (omega (arith, lt)) (omega (arith, e)))
 
 -- a worker's own is its part
 pub parts_own : (objects : Ready) (images : Contents) (phase : ℕ) (lines : List PhaseLine) (n : ℕ) (ws us : List Worker) (parts : List (List Acted)) → Parts objects images phase lines n ws us parts
@@ -135,7 +123,7 @@ parts_own objects images phase lines n (w ∷ ws) (u ∷ us) [] all k j lt is = 
 parts_own objects images phase lines n (w ∷ ws) (u ∷ us) (part ∷ parts) all zero j lt is =
     own_both j part (joined parts)
     ∙ ap (λ (xs : List Acted). xs ++ own_entries j (joined parts)) (ap (λ (i : ℕ). own_entries i part) (is ∙ omega arith) ∙ own_same (n + 1) part (part_own objects images phase lines n w u part all.0))
-    ∙ ap (λ (xs : List Acted). part ++ xs) (parts_below objects images phase lines (n + 1) ws us parts all.1 j (omega (arith, is)))
+    ∙ ap (λ (xs : List Acted). part ++ xs) (parts_other objects images phase lines (n + 1) ws us parts all.1 j (λ i below e. omega (arith, is, e)))
     ∙ append-nil part
 parts_own objects images phase lines n (w ∷ ws) (u ∷ us) (part ∷ parts) all (suc k) j lt is =
     own_both j part (joined parts)

@@ -40,7 +40,7 @@ use Rattle.ipe_workers.specs.Phases.{AreDone, AreLevel, AreTaken, HasPhase, IsKe
 use Rattle.ipe_workers.specs.Prepared.{files_in}
 use Rattle.ipe_workers.specs.Rounds.{AdminHeard, AllHeard, WorkerHeard}
 use Rattle.ipe_workers.specs.Workers.{HasRun, entries_in, lines_for, pass_of}
-use Rattle.ipe_workers.proofs.Parts.{Parts, all_own, joined, nth, own_both, own_none, own_same, parts_above, parts_at, parts_below, part_of, parts_of, parts_own, parts_told}
+use Rattle.ipe_workers.proofs.Parts.{Parts, all_own, joined, nth, own_both, own_none, own_same, part_of, parts_at, parts_of, parts_other, parts_own, parts_told}
 use Rattle.ipe_workers.proofs.Rounds.{any_default}
 
 -- what stands between two histories with the same of a kind has the same
@@ -54,7 +54,7 @@ squeeze f top mid low x y same =
     m ∙ ap (λ (es : List Event). es ++ filter f low) (nil_from_length (filter f y.0) (omega (arith, lm, lt, ls)))
 
 -- no event of a pass that the gate hasn't
-none_below : (n p : ℕ) (h : List Event) → n ≤ p → PassesBelow n h → own_events p h ≡ []
+pub none_below : (n p : ℕ) (h : List Event) → n ≤ p → PassesBelow n h → own_events p h ≡ []
 none_below n p [] le below = refl
 none_below n p (Store s i w ∷ h) le below = none_below n p h le below.1
 none_below n p (Switch s e u ∷ h) le below = none_below n p h le below.1
@@ -252,7 +252,7 @@ ended_phase law objects images phase lines now a a0 m b ws us xs ys zs told entr
     let own0 : own_entries 0 acted ≡ adm.acted =
     own_both 0 adm.acted (joined parts)
     ∙ ap (λ (zs : List Acted). zs ++ own_entries 0 (joined parts)) (own_same 0 adm.acted of_admin)
-    ∙ ap (λ (zs : List Acted). adm.acted ++ zs) (parts_below objects images phase lines 0 ws us parts are 0 (omega arith))
+    ∙ ap (λ (zs : List Acted). adm.acted ++ zs) (parts_other objects images phase lines 0 ws us parts are 0 (λ k lt e. omega (arith, e)))
     ∙ append-nil adm.acted in
     let others : (p : ℕ) → own_entries (p + 1) acted ≡ own_entries (p + 1) (joined parts) = λ p.
     own_both (p + 1) adm.acted (joined parts)
@@ -260,7 +260,7 @@ ended_phase law objects images phase lines now a a0 m b ws us xs ys zs told entr
     let own_at : (p : ℕ) → p < length ws → own_entries (p + 1) acted ≡ nth parts p = λ p lt.
     others p ∙ parts_own objects images phase lines 0 ws us parts are p (p + 1) lt (omega arith) in
     let none : (p : ℕ) → length ws ≤ p → own_entries (p + 1) acted ≡ [] = λ p le.
-    others p ∙ parts_above objects images phase lines 0 ws us parts are (p + 1) (omega (arith, le)) in
+    others p ∙ parts_other objects images phase lines 0 ws us parts are (p + 1) (λ k lt e. omega (arith, le, lt, e)) in
     record {
       after = after;
       acted = acted;

@@ -1,5 +1,5 @@
 -- What workers do beside each other: worker K stands at place K - 1.
-use Rattle.std.specs.Prelude.{◌≡◌, ℕ, ◌+◌, ◌<◌, ◌≤◌, List, length, slice_index_or}
+use Rattle.std.specs.Prelude.{◌≡◌, ℕ, ◌+◌, ◌<◌, ◌≤◌, false, List, length, slice_index_or}
 use Rattle.blk_device.specs.Contents.{Contents}
 use Rattle.ipe_requests.specs.declared.script.PhaseLine.{PhaseLine}
 use Rattle.ipe_objects.specs.Ready.{Ready}
@@ -17,3 +17,9 @@ abbrev pub AllRan : Ready → Contents → ℕ → List PhaseLine → List Worke
 AllRan objects images phase lines ws vs =
     (k : ℕ) (d : Worker) → k < length ws →
     HasRun objects images phase (is_done (slice_index_or vs k d)) lines (slice_index_or ws k d) (slice_index_or vs k d)
+
+-- each worker ran its own of the first of these lines, and nothing is said of its entries
+abbrev pub AllBegan : Ready → Contents → ℕ → List PhaseLine → List Worker → List Worker → Type 0
+AllBegan objects images phase lines ws vs =
+    (k : ℕ) (d : Worker) → k < length ws →
+    HasRun objects images phase false lines (slice_index_or ws k d) (slice_index_or vs k d)

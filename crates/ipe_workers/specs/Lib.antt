@@ -6,3 +6,4 @@ pub mod Administering
 pub mod Beside
 pub mod Rounds
 pub mod Phases
+pub mod Making

@@ -35,6 +35,15 @@ pub record IsTaken (w v : Worker) : Type 0 where
 abbrev pub AreTaken : List Worker → List Worker → Type 0
 AreTaken ws vs = (k : ℕ) (d : Worker) → k < length ws → IsTaken (slice_index_or ws k d) (slice_index_or vs k d)
 
+-- a worker's pass and its view are as they were
+pub record IsSame (w v : Worker) : Type 0 where
+  pub pass : pass_of v ≡ pass_of w
+  pub view : view_of v ≡ view_of w
+
+-- so are each one's
+abbrev pub AreSame : List Worker → List Worker → Type 0
+AreSame ws vs = (k : ℕ) (d : Worker) → k < length ws → IsSame (slice_index_or ws k d) (slice_index_or vs k d)
+
 -- one worker has seen a history, of which its pass, that of this number, made no step since; no entry of it is waiting
 pub record IsLevel (now : List Event) (admin : Admin) (k : ℕ) (w : Worker) : Type 0 where
   pub gate : gate_of (pass_of w) ≡ admin_gate (gate_in admin)

@@ -9,6 +9,7 @@
 mod administrator;
 mod answering;
 mod beside;
+mod making;
 mod meeting;
 mod pace;
 mod phase;
@@ -17,6 +18,7 @@ mod work;
 mod worker;
 
 pub use beside::run_beside;
+pub use making::{into_passes, make_workers};
 pub use pace::{NoPace, Pace};
 pub use phase::run_phase;
 pub use work::Work;
