@@ -3,9 +3,12 @@
 #![tactic(auto)]
 
 use blk_device::FileDevices;
-use ipe_program::run;
+use ipe_program::{NoPace, run};
 use ipe_words::{MemorySink, MemorySource, Status};
+use std::fs::Files;
 use std::process::ExitCode;
+use std::sync::Wait;
+use std::thread::Threads;
 use std::{fs, io};
 
 /// The most bytes that an example may write.
@@ -40,7 +43,13 @@ fn names(rt: &HostRuntime) -> io::Result<Vec<String>> {
 }
 
 // Whether the program ends with status 0 on the example, and writes what stands beside it.
-fn check(rt: &HostRuntime, word: &str, name: &str, stem: &str, kind: &str) -> io::Result<bool> {
+fn check<R: Files + AllocGlobal + Threads + Wait + Sync>(
+    rt: &R,
+    word: &str,
+    name: &str,
+    stem: &str,
+    kind: &str,
+) -> io::Result<bool> {
     let alloc = rt.alloc();
     let input = fs::read_to_string(rt, name)?;
     let wanted = fs::read_to_string(rt, format!(in alloc; "{stem}.{kind}")?.as_str())?;
@@ -48,6 +57,15 @@ fn check(rt: &HostRuntime, word: &str, name: &str, stem: &str, kind: &str) -> io
     let mut source = MemorySource::new(input.into_bytes(), MOST_WRITTEN, Vec::new(alloc));
     let mut sink = MemorySink::new(alloc, MOST_WRITTEN, MOST_WRITTEN, Vec::new(alloc))?;
     let mut devices = FileDevices::new(rt);
-    let status = run(alloc, &words, &mut source, &mut sink, &mut devices);
+    let status = run(
+        rt,
+        alloc,
+        &words,
+        &mut source,
+        &mut sink,
+        &mut devices,
+        &NoPace,
+        &mut None,
+    );
     Ok(status == Status::Done && sink.written() == wanted.as_bytes())
 }

@@ -1,11 +1,11 @@
 -- What the program's arguments ask of it.
 use Rattle.std.specs.Prelude.{ℕ, List, [], ◌∷◌, Option, None}
 use Rattle.ipe_program.specs.Asked.{tree_by}
-use Rattle.ipe_program.specs.declared.asked.Asked.{Asked}
+use Rattle.ipe_program.specs.declared.asked.Task.{Task}
 use Rattle.ipe_program.specs.declared.asked.TreePart.TheVariants.{HashBlocks}
 
 -- hash blocks are asked for by three arguments: the size of a block, the salt and the device
-abbrev pub asked_by : List (List ℕ) → Option Asked
+abbrev pub asked_by : List (List ℕ) → Option Task
 asked_by [] = None
 asked_by (size ∷ []) = None
 asked_by (size ∷ salt ∷ []) = None

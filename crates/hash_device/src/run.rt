@@ -1,10 +1,12 @@
 ghost use Rattle.std.specs.Prelude.{◌≡◌, ◌≢◌, IfOk, IfSome, None, OnErr, map, string_bytes};
+ghost use Rattle.std.specs.Option.{option_map};
 ghost use Rattle.hash_device.specs.Asked.{asked_by};
-ghost use Rattle.ipe_program.specs.Asked.{HasRule};
-ghost use Rattle.ipe_program.specs.Shell.{Runs, handed};
+ghost use Rattle.ipe_program.specs.Asked.{HasTaskRule};
+ghost use Rattle.ipe_program.specs.Shell.{Runs, handed, no_gate};
+ghost use Rattle.ipe_program.specs.declared.asked.Asked.TheVariants.{Alone};
 
 use blk_device::Devices;
-use ipe_program::{Asked, TreePart, serve, tree_by};
+use ipe_program::{Task, TreePart, serve_alone, tree_by};
 use ipe_words::{Sink, Source, Status};
 use std::alloc::{AllocError, Global};
 
@@ -17,21 +19,21 @@ pub fn run<S: Source, K: Sink, D: Devices>(
     sink: &mut K,
     devices: &mut D,
 ) -> Status
-    ensures { Runs (asked_by (map string_bytes words.now.items)) result
+    ensures { Runs (option_map Alone (asked_by (map string_bytes words.now.items))) result
         (handed S.remaining S.faults source.old source.new) (handed K.written K.faults sink.old sink.new)
-        (handed D.contents D.faults devices.old devices.new) }
+        (handed D.contents D.faults devices.old devices.new) no_gate }
 {
     match asked_by(alloc, words) {
-        Ok(Some(asked)) => serve(alloc, &asked, source, sink, devices),
+        Ok(Some(task)) => serve_alone(alloc, &task, source, sink, devices),
         Ok(None) => Status::Usage,
         Err(AllocError) => Status::NoMemory,
     }
 }
 
 // What the arguments ask for, if they ask for anything.
-fn asked_by(alloc: Global, words: &Vec<String>) -> Result<Option<Asked>, AllocError>
-    ensures asked { IfOk result (λ asked. asked ≡ asked_by (map string_bytes words.now.items)) }
-    ensures rule { IfOk result (λ asked. IfSome asked HasRule) }
+fn asked_by(alloc: Global, words: &Vec<String>) -> Result<Option<Task>, AllocError>
+    ensures task { IfOk result (λ task. task ≡ asked_by (map string_bytes words.now.items)) }
+    ensures rule { IfOk result (λ task. IfSome task HasTaskRule) }
     ensures no_memory { OnErr result (asked_by (map string_bytes words.now.items) ≢ None) }
 {
     match words.as_slice() {

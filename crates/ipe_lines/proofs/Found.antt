@@ -2,19 +2,13 @@
 use Rattle.std.proofs.Common.{◌≡◌, ℕ, zero, suc, Bool, true, false, cond, List, [], ◌∷◌, Option, Some, None, Result, Ok, Err, refl}
 use Rattle.std.specs.List.{AllByRecursion}
 use Rattle.std.specs.Prelude.{slice_get}
-use Rattle.std.specs.Option.{ok_or, option_and_then, option_map, option_or}
+use Rattle.std.specs.Option.{ok_or, option_and_then, option_map}
 use Rattle.std.specs.Result.{IfOk}
-use Rattle.line_words.specs.Words.{when}
 
 -- what is there, if anything, has this
 abbrev pub Found : {X : Type 0} → (X → Type 0) → Option X → Type 0
 Found P None = Unit {0}
 Found P (Some x) = P x
-
--- what is there where a test holds
-pub found_when : {X : Type 0} (P : X → Type 0) (test : Bool) (found : Option X) → (test ≡ true → Found P found) → Found P (when test found)
-found_when P true found h = h refl
-found_when P false found h = tt
 
 -- so it is where a test that fails leaves nothing
 pub found_on : {X : Type 0} (P : X → Type 0) (test : Bool) (found : Option X) → (test ≡ true → Found P found) → Found P (cond test found None)
@@ -36,20 +30,10 @@ pub found_and_then : {X Y : Type 0} (P : Y → Type 0) (f : X → Option Y) (fou
 found_and_then P f None h = tt
 found_and_then P f (Some x) h = h x
 
--- what follows from what is there and has a property
-pub found_then : {X Y : Type 0} (Q : X → Type 0) (P : Y → Type 0) (f : X → Option Y) (found : Option X) → Found Q found → ((x : X) → Q x → Found P (f x)) → Found P (option_and_then f found)
-found_then Q P f None q h = tt
-found_then Q P f (Some x) q h = h x q
-
 -- one of two things that are there
 pub found_either : {X : Type 0} (P : X → Type 0) (test : Bool) (one two : Option X) → Found P one → Found P two → Found P (cond test one two)
 found_either P true one two h k = h
 found_either P false one two h k = k
-
--- the first of two things that is there
-pub found_or : {X : Type 0} (P : X → Type 0) (one two : Option X) → Found P one → Found P two → Found P (option_or one two)
-found_or P None two h k = k
-found_or P (Some x) two h k = h
 
 -- what holds of each element holds of the one at a place
 pub get_all : {X : Type 0} (P : X → Type 0) (xs : List X) (place : ℕ) → AllByRecursion P xs → Found P (slice_get xs place)

@@ -1,10 +1,12 @@
--- What a run in the order of the file tells, once it is put in order, tells an order of the lines.
-use Rattle.std.proofs.Common.{◌≡◌, ℕ, zero, suc, ◌+◌, ◌<◌, ◌==◌, Bool, true, false, List, [], ◌∷◌, ◌++◌, length, map, slice_get, Option, Some, None, append-nil, refl, sym, ap, subst, ◌∙◌, arith}
-use Rattle.std.specs.List.{AllByRecursion, AllZip, filter}
-use Rattle.std.proofs.lemmas.Bool.{eqb-true, eq-eqb, ne_eqb}
+-- What a run on a gate tells, once it is put in order, tells an order of the lines.
+use Rattle.std.proofs.Common.{◌≡◌, ℕ, zero, suc, ◌+◌, ◌<◌, ◌==◌, false, List, [], ◌∷◌, ◌++◌, length, map, slice_get, Option, Some, append-nil, refl, sym, ap, subst, ◌∙◌, arith}
+use Rattle.std.specs.List.{AllByRecursion, AllZip}
+use Rattle.std.proofs.lemmas.Bool.{eq-eqb, ne_eqb}
+use Rattle.std.proofs.lemmas.List.{length-map}
 use Rattle.std.proofs.lemmas.List.Elements.{filter-append}
 use Rattle.ipe_machine.specs.Answer.{Verdicts}
-use Rattle.ipe_machine.specs.Machine.{Machine, first_machine}
+use Rattle.ipe_machine.specs.Machine.{Machine}
+use Rattle.ipe_machine.specs.Policies.{Policies, first_policies}
 use Rattle.ipe_requests.specs.Requests.{Script}
 use Rattle.ipe_transcript.specs.declared.transcript.Content.{Content}
 use Rattle.ipe_transcript.specs.declared.transcript.Entry.{Entry}
@@ -12,12 +14,17 @@ use Rattle.ipe_transcript.specs.Entries as transcript
 use Rattle.ipe_transcript.specs.Filing.{AreFiled, LinesRise}
 use Rattle.ipe_transcript.specs.Keys.{own_of}
 use Rattle.ipe_transcript.specs.Order.{AreOrdered}
-use Rattle.ipe_weave.specs.Lines.{Line, LineReply, wrote, told, ruled, Acted, NumbersRise, after_lines, entries_of, line_in, own_entries, own_lines, phases_entries}
-use Rattle.ipe_weave.specs.Phases.{IsAlong, IsPrinted, order_of}
-use Rattle.ipe_weave.specs.Run.{IsNumbered}
+use Rattle.ipe_gate_rule.specs.declared.event.Event.{Event}
+use Rattle.ipe_gate_rule.specs.Legal.{Legal}
+use Rattle.ipe_weave.specs.Basis.{Basis}
+use Rattle.ipe_weave.specs.Gate.{gate_basis}
+use Rattle.ipe_weave.specs.Lines.{Line, LineReply, wrote, told, ruled, Acted, NumbersRise, actor_in, after_lines, entries_of, line_in, task_in, own_entries, own_lines, phases_entries}
+use Rattle.ipe_weave.specs.Phases.{IsOrderOf, IsPrinted, PhasesRan, order_of}
+use Rattle.ipe_weave.specs.Standing.{policies_then}
 use Rattle.ipe_weave.specs.Told.{IsFit, entry_of, told_entry}
 use Rattle.ipe_lines.specs.Asked.{Files, at_the_start, phases_of, verdicts_of}
-use Rattle.ipe_lines.specs.Told.{TellInOrder, content_of_line, file_entries, one_list, told_phase, told_phases}
+use Rattle.ipe_lines.specs.Told.{TellInOrder, content_of_line, one_list, told_phase, told_phases}
+use Rattle.ipe_lines.proofs.Each.{each_same}
 
 -- what is told of a line is of its phase
 told_of_phase : (content : Option Content) (phase : ℕ) (line : Line) (reply : LineReply)
@@ -25,6 +32,19 @@ told_of_phase : (content : Option Content) (phase : ℕ) (line : Line) (reply : 
 told_of_phase content phase line (wrote epoch switched answer records) = refl
 told_of_phase content phase line (told epoch answer) = refl
 told_of_phase content phase line (ruled ruling access) = refl
+
+-- each one's own entries of a phase are of that one's own lines
+abbrev OfLines : List Line → List Acted → Type 0
+OfLines lines entries = (actor : ℕ) → map line_in (own_entries actor entries) ≡ own_lines actor lines
+
+-- so it is in each phase that ran
+ran_of_lines : (basis : Basis) (workers : ℕ) (whole : List Event) (policies : Policies) (before : List Event) (script : List (List Line)) (phases : List (List Acted))
+    → PhasesRan basis workers policies before whole script phases → AllZip OfLines script phases
+ran_of_lines basis workers whole policies before [] [] ran = tt
+ran_of_lines basis workers whole policies before [] (entries ∷ phases) ran = absurd ran
+ran_of_lines basis workers whole policies before (lines ∷ script) [] ran = absurd ran
+ran_of_lines basis workers whole policies before (lines ∷ script) (entries ∷ phases) ran =
+    (ran.1.all, ran_of_lines basis workers whole (policies_then basis.verdicts policies (map task_in (own_entries 0 entries))) ran.0 script phases ran.2)
 
 module _ (files : Files) where
   -- what is told of a phase is of that phase
@@ -75,8 +95,6 @@ module _ (files : Files) where
   -- with the laws of how entries are told and filed
   module _
       (fits : (verdicts : Verdicts) (machine : Machine) (lines : List Line) → AllByRecursion IsFit (entries_of verdicts machine lines))
-      (own : (verdicts : Verdicts) (machine : Machine) (lines : List Line) (actor : ℕ)
-      → map line_in (own_entries actor (entries_of verdicts machine lines)) ≡ own_lines actor lines)
       (prints : (contents : Acted → Option Content) (phase : ℕ) (entries printed : List Acted)
       → AllByRecursion IsFit entries → AllByRecursion IsFit printed → IsPrinted entries printed
       → transcript.IsPrinted (map (entry_of contents phase) entries) (map (entry_of contents phase) printed))
@@ -96,39 +114,41 @@ module _ (files : Files) where
         (fits verdicts machine lines, fits_all verdicts (after_lines verdicts machine lines) order)
 
     -- the filed entries of a phase are what is told of it as it is printed
-    phase_told : (verdicts : Verdicts) (machine : Machine) (phase : ℕ) (lines : List Line) (printed : List Acted) (entries part : List Entry)
-        → NumbersRise lines → IsPrinted (entries_of verdicts machine lines) printed → AllByRecursion IsFit printed
-        → entries ≡ told_phase files phase (entries_of verdicts machine lines)
-        → AreFiled transcript.actor_of transcript.line_of transcript.key_of entries part
+    phase_told : (phase : ℕ) (lines : List Line) (entries printed : List Acted) (entered part : List Entry)
+        → NumbersRise lines → OfLines lines entries → IsPrinted entries printed → AllByRecursion IsFit printed
+        → entered ≡ told_phase files phase entries
+        → AreFiled transcript.actor_of transcript.line_of transcript.key_of entered part
         → part ≡ told_phase files phase printed
-    phase_told verdicts machine phase lines printed entries part rise is fit same are =
-        filed (told_phase files phase (entries_of verdicts machine lines)) part (told_phase files phase printed)
+    phase_told phase lines entries printed entered part rise own is fit same are =
+        filed (told_phase files phase entries) part (told_phase files phase printed)
         (subst (λ (given : List Entry). AreFiled transcript.actor_of transcript.line_of transcript.key_of given part) same are)
-        (prints (content_of_line files) phase (entries_of verdicts machine lines) printed (fits verdicts machine lines) fit is)
-        (rising (content_of_line files) phase lines (entries_of verdicts machine lines) printed rise (own verdicts machine lines) fit is)
+        (prints (content_of_line files) phase entries printed (each_same IsFit actor_in entries printed (λ actor. sym (is.own actor)) fit) fit is)
+        (rising (content_of_line files) phase lines entries printed rise own fit is)
 
     -- so it is of all phases, from one on
-    all_told : (verdicts : Verdicts) (whole : List Entry) (phase : ℕ) (machine : Machine) (script : List (List Line)) (printed : List (List Acted)) (ordered : List (List Entry))
-        → AllByRecursion NumbersRise script → AllZip IsPrinted (phases_entries verdicts machine script) printed
+    all_told : (whole : List Entry) (phase : ℕ) (script : List (List Line)) (phases printed : List (List Acted)) (ordered : List (List Entry))
+        → AllByRecursion NumbersRise script → AllZip OfLines script phases → AllZip IsPrinted phases printed
         → AllByRecursion (AllByRecursion IsFit) printed
-        → ((i : ℕ) (entries : List Acted) → slice_get (phases_entries verdicts machine script) i ≡ Some entries
+        → ((i : ℕ) (entries : List Acted) → slice_get phases i ≡ Some entries
         → transcript.of_phase (i + phase) whole ≡ told_phase files (i + phase) entries)
         → ((i : ℕ) (part : List Entry) → slice_get ordered i ≡ Some part
         → AreFiled transcript.actor_of transcript.line_of transcript.key_of (transcript.of_phase (i + phase) whole) part)
         → length ordered ≡ length script → ordered ≡ told_phases files phase printed
-    all_told verdicts whole phase machine [] [] [] rise is fit at each count = refl
-    all_told verdicts whole phase machine [] [] (part ∷ ordered) rise is fit at each count = absurd cc
-    all_told verdicts whole phase machine [] (one ∷ printed) ordered rise is fit at each count = absurd is
-    all_told verdicts whole phase machine (lines ∷ script) [] ordered rise is fit at each count = absurd is
-    all_told verdicts whole phase machine (lines ∷ script) (one ∷ printed) [] rise is fit at each count = absurd cc
-    all_told verdicts whole phase machine (lines ∷ script) (one ∷ printed) (part ∷ ordered) rise is fit at each count =
+    all_told whole phase [] [] [] [] rise own is fit at each count = refl
+    all_told whole phase [] [] [] (part ∷ ordered) rise own is fit at each count = absurd cc
+    all_told whole phase [] [] (one ∷ printed) ordered rise own is fit at each count = absurd is
+    all_told whole phase [] (entries ∷ phases) printed ordered rise own is fit at each count = absurd own
+    all_told whole phase (lines ∷ script) [] printed ordered rise own is fit at each count = absurd own
+    all_told whole phase (lines ∷ script) (entries ∷ phases) [] ordered rise own is fit at each count = absurd is
+    all_told whole phase (lines ∷ script) (entries ∷ phases) (one ∷ printed) [] rise own is fit at each count = absurd cc
+    all_told whole phase (lines ∷ script) (entries ∷ phases) (one ∷ printed) (part ∷ ordered) rise own is fit at each count =
         let none : 0 + phase ≡ phase = omega arith in
         let first : part ≡ told_phase files phase one =
-        phase_told verdicts machine phase lines one (transcript.of_phase phase whole) part rise.0 is.0 fit.0
-        (rw (← none) (at 0 (entries_of verdicts machine lines) refl)) (rw (← none) (each 0 part refl)) in
+        phase_told phase lines entries one (transcript.of_phase phase whole) part rise.0 own.0 is.0 fit.0
+        (rw (← none) (at 0 entries refl)) (rw (← none) (each 0 part refl)) in
         let later : ordered ≡ told_phases files (phase + 1) printed =
-        all_told verdicts whole (phase + 1) (after_lines verdicts machine lines) script printed ordered rise.1 is.1 fit.1
-        (λ i entries there. rw (← moved i) (at (suc i) entries there))
+        all_told whole (phase + 1) script phases printed ordered rise.1 own.1 is.1 fit.1
+        (λ i others there. rw (← moved i) (at (suc i) others there))
         (λ i given there. rw (← moved i) (each (suc i) given there))
         cc in
         rw (first, later) refl
@@ -137,23 +157,22 @@ module _ (files : Files) where
         moved i = omega arith
 
     -- the whole run
-    pub run_told : (script : Script) (ordered : List (List Entry)) (printed : List (List Acted))
-        → IsNumbered script.workers (phases_of script files)
-        → AllZip IsPrinted (phases_entries (verdicts_of script) (at_the_start script) (phases_of script files)) printed
-        → IsAlong (verdicts_of script) (at_the_start script) (phases_of script files) printed
-        → length (phases_of script files) ≡ length script.phases
-        → AreOrdered (length script.phases) (one_list (file_entries script files)) ordered
-        → TellInOrder script files ordered
-    run_told script ordered printed numbered is along count are =
-        let verdicts : Verdicts = verdicts_of script in
-        let machine : Machine = at_the_start script in
+    pub run_told : (script : Script) (history : List Event) (phases printed : List (List Acted)) (ordered : List (List Entry))
+        → AllByRecursion NumbersRise (phases_of script files) → Legal history
+        → PhasesRan (gate_basis (verdicts_of script)) script.workers first_policies [] history (phases_of script files) phases
+        → AllZip IsPrinted phases printed
+        → IsOrderOf (gate_basis (verdicts_of script)) (at_the_start script) history (phases_of script files) printed
+        → AreOrdered (length script.phases) (one_list (told_phases files 1 phases)) ordered
+        → TellInOrder script files history ordered
+    run_told script history phases printed ordered rise legal ran is order are =
         let fit : AllByRecursion (AllByRecursion IsFit) printed =
-        subst (AllByRecursion (AllByRecursion IsFit)) along.replies (fits_all verdicts machine (order_of printed)) in
+        subst (AllByRecursion (AllByRecursion IsFit)) order.along.replies
+        (fits_all (verdicts_of script) (at_the_start script) (order_of printed)) in
         record {
           printed = printed;
-          along = along;
-          told = all_told verdicts (one_list (file_entries script files)) 1 machine (phases_of script files) printed ordered
-              numbered.rising is fit
-              (found_at 1 (phases_entries verdicts machine (phases_of script files)))
-              are.each (are.count ∙ sym count);
+          legal = legal;
+          order = order;
+          told = all_told (one_list (told_phases files 1 phases)) 1 (phases_of script files) phases printed ordered rise
+              (ran_of_lines (gate_basis (verdicts_of script)) script.workers history first_policies [] (phases_of script files) phases ran)
+              is fit (found_at 1 phases) are.each (are.count ∙ sym (length-map script.phases _));
         }

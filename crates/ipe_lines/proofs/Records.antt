@@ -7,7 +7,6 @@ use Rattle.std.specs.Option.{option_map, option_map_or}
 use Rattle.std.proofs.lemmas.List.Elements.{All-append, All-drop, All-from_recursion, All-set, All-take, recursion_from_All}
 use Rattle.hex.specs.Hex.{encode_lower}
 use Rattle.ipe_policy.specs.declared.op.Op.{Op}
-use Rattle.ipe_policy.specs.declared.op.Action.{Action}
 use Rattle.ipe_policy.specs.declared.request.Hook.{Hook}
 use Rattle.ipe_policy.specs.declared.request.Hook.TheVariants as hook
 use Rattle.ipe_policy.specs.declared.request.Object.{Object}
@@ -19,7 +18,6 @@ use Rattle.ipe_policy.specs.declared.evaluation.Found as found
 use Rattle.ipe_policy.specs.declared.evaluation.Which.{Which}
 use Rattle.ipe_policy.specs.declared.evaluation.Which.TheVariants as which
 use Rattle.ipe_policy.specs.declared.statement.Statement.{Statement}
-use Rattle.ipe_policy.specs.declared.statement.Statement.TheVariants.{Rule, OpDefault, GlobalDefault}
 use Rattle.ipe_policy.specs.Evaluation.{decision, deciding_statement, found_statement}
 use Rattle.ipe_policy.specs.Request.{evaluated_op, hook_of}
 use Rattle.ipe_policy.specs.Spelling.{bit_text, op_word, statement_text, version_text}
@@ -41,7 +39,7 @@ use Rattle.ipe_lines.specs.Spelled.{line_spells}
 use Rattle.ipe_lines.proofs.Each.{All_both}
 use Rattle.ipe_lines.proofs.Found.{Found, found_and_then, found_made, found_on, get_all}
 use Rattle.ipe_lines.proofs.Within.{Whole, both, chain_whole, decimal_whole, hex_whole, then_part, version_whole, words_whole}
-use Rattle.ipe_lines.proofs.ReadPolicies.{IsWholeProperty, IsWholeStatement, op_whole, statement_whole}
+use Rattle.ipe_lines.proofs.ReadPolicies.{IsWholeStatement, op_whole, statement_whole}
 use Rattle.ipe_lines.proofs.WholePolicies.{policy_whole}
 
 -- a record that stands within a line, and spells no number

@@ -25,9 +25,9 @@ use Rattle.ipe_transcript.specs.declared.transcript.Entry.{Entry}
 use Rattle.ipe_transcript.specs.declared.transcript.Entry.TheVariants as entry
 use Rattle.ipe_transcript.specs.Entries.{line_of}
 use Rattle.ipe_transcript.specs.Lines.{access_line, acted_text, by_text, bytes_text, hook_text, place_text, read_text, serial_text, told_text, who_text, write_text}
-use Rattle.ipe_transcript.specs.Text.{content_line, content_text, corrupt_text, entry_text, phase_text, phases_text, transcript_text}
-use Rattle.ipe_weave.specs.Lines.{Access, Task, Write, Read, Hook, Line, LineReply, wrote, told, ruled, Acted, after_hook, after_line, after_lines, after_task, after_write, entries_of, hook_reply, line_reply, phases_entries, task_reply, write_reply}
-use Rattle.ipe_weave.specs.Told.{entry_of, told_entry}
+use Rattle.ipe_transcript.specs.Text.{content_line, content_text, corrupt_text, entry_text, phases_text, transcript_text}
+use Rattle.ipe_weave.specs.Lines.{Access, Task, Write, Read, Hook, Line, LineReply, wrote, told, ruled, after_hook, after_line, after_lines, after_task, after_write, entries_of, hook_reply, line_reply, phases_entries, task_reply, write_reply}
+use Rattle.ipe_weave.specs.Told.{told_entry}
 use Rattle.ipe_lines.specs.Asked.{Files}
 use Rattle.ipe_lines.specs.Spelled.{line_spells, spelled, numbers_of}
 use Rattle.ipe_lines.specs.Told.{content_of_line, told_phase, told_phases}

@@ -1,14 +1,14 @@
 -- The lines of a request file, in whatever order each one's own are kept, have words that stand within lines.
-use Rattle.std.proofs.Common.{◌≡◌, ℕ, ◌+◌, ◌^◌, ◌<◌, ◌≤◌, Bool, true, false, cond, List, [], ◌∷◌, map, Option, Some, None, Ok, refl, ap, arith}
-use Rattle.std.specs.Prelude.{codes, nat_eq, unwrap_or, length}
-use Rattle.std.specs.List.{AllByRecursion, AllZip, find, starts_with}
+use Rattle.std.proofs.Common.{◌≡◌, ℕ, ◌^◌, ◌<◌, Bool, true, false, cond, List, [], ◌∷◌, map, Option, Some, None, refl, arith}
+use Rattle.std.specs.Prelude.{codes, nat_eq, unwrap_or}
+use Rattle.std.specs.List.{AllByRecursion, find, starts_with}
 use Rattle.std.specs.Option.{option_map}
 use Rattle.std.proofs.lemmas.Bool.{and_parts}
 use Rattle.blk_device.specs.Contents.{Contents}
 use Rattle.line_words.specs.Words.{is_text, is_word}
 use Rattle.ipe_policy.specs.declared.request.Object.TheVariants as object
-use Rattle.ipe_policy.specs.Words.{is_comm, is_dev_name, is_id_byte, is_path, is_quotable}
-use Rattle.ipe_objects.specs.Files.{object_by, object_of}
+use Rattle.ipe_policy.specs.Words.{is_id_byte, is_path, is_quotable}
+use Rattle.ipe_objects.specs.Files.{object_by}
 use Rattle.ipe_requests.specs.declared.script.FileForm.{FileForm}
 use Rattle.ipe_requests.specs.declared.script.FileForm.TheVariants as form
 use Rattle.ipe_requests.specs.declared.script.FileLine.{FileLine}
@@ -16,10 +16,11 @@ use Rattle.ipe_requests.specs.declared.script.Phase.{Phase}
 use Rattle.ipe_requests.specs.declared.script.PhaseLine.{PhaseLine}
 use Rattle.ipe_requests.specs.declared.script.PhaseLine.TheVariants as asked
 use Rattle.ipe_requests.specs.Requests.{Script, file_of}
-use Rattle.ipe_requests.specs.Rules.{EachLine, IsFileOf, IsFormOf, IsHookOf, IsNumbered, PhasesRise, LinesRise, line_number}
-use Rattle.ipe_weave.specs.Lines.{Line, NumbersRise, actor_of, IsWeaveOf, IsWeave}
+use Rattle.ipe_requests.specs.Rules.{EachLine, IsFileOf, IsFormOf, IsHookOf, IsNumbered, LinesRise, line_number}
+use Rattle.ipe_gate_rule.specs.declared.event.Event.{Event}
+use Rattle.ipe_weave.specs.Lines.{Line, NumbersRise, actor_of, own_lines, IsWeave}
 use Rattle.ipe_weave.specs.Phases.{order_of}
-use Rattle.ipe_weave.specs.Run as run
+use Rattle.ipe_weave.proofs.Numbers.{own_rise}
 use Rattle.ipe_transcript.specs.declared.transcript.Entry.{Entry}
 use Rattle.ipe_lines.specs.Asked.{Files, line_of, lines_of, object_at, phases_of}
 use Rattle.ipe_lines.specs.Files.{files_of}
@@ -108,36 +109,23 @@ module _ (script : Script) (files : Files) where
       number_is (asked.Read number node) = refl
       number_is (asked.Hook number worker what subject path) = refl
 
-  phases_rise : (phases : List Phase) → AllByRecursion (λ (phase : Phase). LinesRise line_number phase.lines) phases
+  -- the numbers of the lines rise in each phase
+  pub phases_rise : (phases : List Phase) → AllByRecursion (λ (phase : Phase). LinesRise line_number phase.lines) phases
       → AllByRecursion NumbersRise (map (λ (phase : Phase). lines_of script files phase.lines) phases)
   phases_rise [] rise = tt
   phases_rise (phase ∷ phases) rise = (lines_rise phase.lines rise.0, phases_rise phases rise.1)
 
-  -- each hook is of one of the workers
-  line_within : (line : PhaseLine) → IsHookOf script line → run.IsWithin script.workers (line_of script files line).task
-  line_within (asked.Write number may node what) hook = tt
-  line_within (asked.Read number node) hook = tt
-  line_within (asked.Hook number worker what subject path) hook = (hook.0, hook.1)
-
-  lines_within : (lines : List PhaseLine) → AllByRecursion (IsHookOf script) lines → run.AreWithin script.workers (lines_of script files lines)
-  lines_within [] hooks = tt
-  lines_within (line ∷ lines) hooks = (line_within line hooks.0, lines_within lines hooks.1)
-
-  phases_within : (phases : List Phase) → AllByRecursion (λ (phase : Phase). AllByRecursion (IsHookOf script) phase.lines) phases
-      → AllByRecursion (run.AreWithin script.workers) (map (λ (phase : Phase). lines_of script files phase.lines) phases)
-  phases_within [] hooks = tt
-  phases_within (phase ∷ phases) hooks = (lines_within phase.lines hooks.0, phases_within phases hooks.1)
-
-  pub is_numbered : PhasesRise script → EachLine (IsHookOf script) script → run.IsNumbered script.workers (phases_of script files)
-  is_numbered rise hooks = record {
-    workers_are = phases_within script.phases hooks;
-    rising = phases_rise script.phases rise;
-  }
+  -- and so do those of each one's lines
+  pub own_rising : (phases : List Phase) → AllByRecursion (λ (phase : Phase). LinesRise line_number phase.lines) phases
+      → AllByRecursion (λ (phase : Phase). (actor : ℕ) → NumbersRise (own_lines actor (lines_of script files phase.lines))) phases
+  own_rising [] rise = tt
+  own_rising (phase ∷ phases) rise =
+      (λ actor. own_rise actor (lines_of script files phase.lines) (lines_rise phase.lines rise.0), own_rising phases rise.1)
 
 -- each line of the order that a transcript tells has such words
 pub order_worded : (script : Script) (images : Contents) → AllByRecursion (IsFileOf script) script.files → (most : ℕ) → most < 2 ^ 32
-    → EachLine (IsHookOf script) script → EachLine (IsNumbered most) script → (entries : List (List Entry))
-    → (tell : TellInOrder script (files_of script images) entries) → AllByRecursion (AllByRecursion IsWorded) (order_of tell.printed)
-order_worded script images declared most few hooks numbered entries tell =
-    order_each IsWorded (phases_of script (files_of script images)) (order_of tell.printed) tell.along.weave
+    → EachLine (IsHookOf script) script → EachLine (IsNumbered most) script → (history : List Event) (entries : List (List Entry))
+    → (tell : TellInOrder script (files_of script images) history entries) → AllByRecursion (AllByRecursion IsWorded) (order_of tell.printed)
+order_worded script images declared most few hooks numbered history entries tell =
+    order_each IsWorded (phases_of script (files_of script images)) (order_of tell.printed) tell.order.along.weave
     (phases_worded script images declared most few script.phases hooks numbered)

@@ -1,5 +1,5 @@
 -- The events of the machine that lines are, and the law of versions along them.
-use Rattle.std.specs.Prelude.{◌≡◌, ◌≤◌, ℕ, ◌-◌, ◌&&◌, Bool, if◌then◌else◌, List, [], ◌∷◌, ◌++◌, Option, Some, is_some, Result, Ok, Err}
+use Rattle.std.specs.Prelude.{◌≡◌, ◌≤◌, ℕ, ◌-◌, ◌&&◌, Bool, if◌then◌else◌, List, [], ◌∷◌, ◌++◌, Some, is_some, Result, Ok, Err}
 use Rattle.ipe_policy.specs.Version.{packed}
 use Rattle.ipe_machine.specs.declared.command.Command.{Command}
 use Rattle.ipe_machine.specs.declared.answer.Refusal.{Refusal}

@@ -1,5 +1,5 @@
 -- What a request file and the images of its devices say of the files of paths.
-use Rattle.std.specs.Prelude.{ℕ, List, unwrap_or}
+use Rattle.std.specs.Prelude.{unwrap_or}
 use Rattle.std.specs.Option.{option_map}
 use Rattle.blk_device.specs.Contents.{Contents}
 use Rattle.ipe_policy.specs.declared.request.Object.TheVariants as object

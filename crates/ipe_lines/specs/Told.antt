@@ -1,5 +1,5 @@
 -- What is told of the lines of a request file, and in which order.
-use Rattle.std.specs.Prelude.{◌≡◌, ℕ, pos, ◌+◌, ◌&&◌, if◌then◌else◌, List, [], ◌∷◌, map, Option, Some, None}
+use Rattle.std.specs.Prelude.{◌≡◌, ℕ, pos, ◌+◌, ◌&&◌, if◌then◌else◌, List, [], ◌∷◌, map, Option, None}
 use Rattle.std.specs.List.{flat_map}
 use Rattle.std.specs.Ordering.{int_eq}
 use Rattle.ipe_policy.specs.declared.request.Object.{Object}
@@ -9,8 +9,11 @@ use Rattle.ipe_transcript.specs.declared.transcript.Content.{Content}
 use Rattle.ipe_transcript.specs.declared.transcript.Entry.{Entry}
 use Rattle.ipe_requests.specs.Known.{reads_file}
 use Rattle.ipe_requests.specs.Requests.{Script}
-use Rattle.ipe_weave.specs.Lines.{Access, Task, Write, Read, Hook, LineReply, wrote, told, ruled, Acted, phases_entries}
-use Rattle.ipe_weave.specs.Phases.{IsAlong}
+use Rattle.ipe_gate_rule.specs.declared.event.Event.{Event}
+use Rattle.ipe_gate_rule.specs.Legal.{Legal}
+use Rattle.ipe_weave.specs.Gate.{gate_basis}
+use Rattle.ipe_weave.specs.Lines.{Access, Task, Write, Read, Hook, LineReply, wrote, told, ruled, Acted}
+use Rattle.ipe_weave.specs.Phases.{IsOrderOf}
 use Rattle.ipe_weave.specs.Told.{entry_of}
 use Rattle.ipe_lines.specs.Asked.{Files, at_the_start, phases_of, verdicts_of}
 
@@ -49,14 +52,11 @@ told_phases files phase (entries ∷ phases) = told_phase files phase entries �
 abbrev pub one_list : List (List Entry) → List Entry
 one_list phases = flat_map (λ (entries : List Entry). entries) phases
 
--- the entries that the machine gives where it replies to the lines of each phase in the order of the file
-abbrev pub file_entries : Script → Files → List (List Entry)
-file_entries script files =
-    told_phases files 1 (phases_entries (verdicts_of script) (at_the_start script) (phases_of script files))
-
 -- entries tell the lines of a request file in an order that keeps each one's lines in that one's order, with each entry
--- in its place; they are what the machine replies along this very order
-pub record TellInOrder (script : Script) (files : Files) (entries : List (List Entry)) : Type 0 where
+-- in its place; they are what the machine replies along this very order, and this legal history of the gate stands for it
+pub record TellInOrder (script : Script) (files : Files) (history : List Event) (entries : List (List Entry)) : Type 0 where
   pub printed : List (List Acted)
-  pub along : IsAlong (verdicts_of script) (at_the_start script) (phases_of script files) printed
+  pub legal : Legal history
+  pub order :
+      IsOrderOf (gate_basis (verdicts_of script)) (at_the_start script) history (phases_of script files) printed
   pub told : entries ≡ told_phases files 1 printed

@@ -7,6 +7,6 @@
 mod laws;
 
 pub use laws::{
-    active_version_never_falls_along_lines, file_order_is_told_in_order,
+    active_version_never_falls_along_lines, gate_run_is_told_in_order, numbers_of_lines_rise,
     transcripts_spell_their_order,
 };

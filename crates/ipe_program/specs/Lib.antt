@@ -6,3 +6,4 @@ pub mod Measure
 pub mod Asked
 pub mod Table
 pub mod Shell
+pub mod Answers

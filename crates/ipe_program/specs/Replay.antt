@@ -1,6 +1,8 @@
 -- What is written for a request file.
 use Rattle.std.specs.Prelude.{◌≡◌, ℕ, codes, List, Option, Some, None, IfSome, ◌⊎◌}
 use Rattle.blk_device.specs.Contents.{Contents}
+use Rattle.ipe_gate.specs.declared.meeting.Closed.{Closed}
+use Rattle.ipe_gate.specs.Meeting.{history}
 use Rattle.ipe_requests.specs.declared.line.ScriptKind.{ScriptKind}
 use Rattle.ipe_requests.specs.declared.line.ScriptKind.TheVariants as kind
 use Rattle.ipe_requests.specs.Law.{AreRequests, HaveFirstBad}
@@ -19,21 +21,23 @@ use Rattle.ipe_program.specs.Refusals.{bad_line_text, device_text}
 
 -- the devices have these images, each as large as it needs to be; the text is a transcript of the request file's lines in
 -- an order that keeps each one's lines in that one's order, with each entry in its place, as the machine replies along
--- it; and the order is the one that the written lines spell
-pub record IsTranscript (script : Script) (held : Option Contents) (text : List ℕ) : Type 0 where
+-- it; the order is the one that the written lines spell; and the one history of the gate that is handed out stands for it
+pub record IsTranscript (script : Script) (held : Option Contents) (closed : Option Closed) (text : List ℕ) : Type 0 where
   pub images : Contents
   pub loaded : AreOf held (named_devices script) images
   pub enough : AreImages script images
+  pub gate : Closed
+  pub handed_out : closed ≡ Some gate
   pub entries : List (List Entry)
-  pub tell : TellInOrder script (files_of script images) entries
+  pub tell : TellInOrder script (files_of script images) (history gate) entries
   pub bytes : text ≡ transcript_text entries
   pub spells : spelled text ≡ numbers_of entries
 
 -- the input is the one spelling of exactly these requests, and the text is their transcript
-pub record IsReplay (input : List ℕ) (held : Option Contents) (text : List ℕ) : Type 0 where
+pub record IsReplay (input : List ℕ) (held : Option Contents) (closed : Option Closed) (text : List ℕ) : Type 0 where
   pub script : Script
   pub asks : AreRequests input script
-  pub transcript : IsTranscript script held text
+  pub transcript : IsTranscript script held closed text
 
 -- what is wrong with a line, as it is spelled
 abbrev pub kind_name : ScriptKind → List ℕ

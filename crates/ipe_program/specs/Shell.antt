@@ -1,6 +1,7 @@
 -- What a call of the program promises, whatever it is asked for.
 use Rattle.std.specs.Prelude.{⊤, ◌≡◌, ◌≢◌, ◌<◌, ℕ, false, List, [], length, Option, Some, None, IfSome, ◌⊎◌}
 use Rattle.blk_device.specs.Contents.{Contents}
+use Rattle.ipe_gate.specs.declared.meeting.Closed.{Closed}
 use Rattle.ipe_program.specs.declared.asked.Asked.{Asked}
 use Rattle.ipe_program.specs.Table.{row, HasText, IsAnswer, WhereTold}
 use Rattle.ipe_words.specs.Count.{Rose}
@@ -33,12 +34,21 @@ IsRead None status before after = ⊤
 IsRead (Some most) status before after =
     IfSome before (λ input. (after ≡ Some []) ⊎ (most < length input) × (status ≡ ends.Refused))
 
+-- what is handed out by a call: before and after it
+pub record Out (A : Type 0) : Type 0 where
+  pub before : A
+  pub after : A
+
+-- nothing can be handed out
+abbrev pub no_gate : Out (Option Closed)
+no_gate = record { before = None; after = None }
+
 -- a call that was asked for this and ended with this status
-pub record Serves {S K D : Type 0} (asked : Asked) (status : Status) (source : Handed S (List ℕ)) (sink : Handed K (List ℕ)) (devices : Handed D Contents) : Type 0 where
-  -- an answer is the text of its status, added whole to what was written
+pub record Serves {S K D : Type 0} (asked : Asked) (status : Status) (source : Handed S (List ℕ)) (sink : Handed K (List ℕ)) (devices : Handed D Contents) (closed : Out (Option Closed)) : Type 0 where
+  -- an answer is the text of its status, added whole to what was written; the gate of a replay is handed out with it
   pub answer : HasText status →
       WhereTold asked (source.tells source.before) (λ input.
-      (text : List ℕ) × IsAnswer asked status input (devices.tells devices.before) text
+      (text : List ℕ) × IsAnswer asked status input (devices.tells devices.before) closed.after text
       × Appends (sink.tells sink.before) (sink.tells sink.after) text)
   pub read : HasText status →
       IsRead (row asked).most_input status (source.tells source.before) (source.tells source.after)
@@ -49,7 +59,8 @@ pub record Serves {S K D : Type 0} (asked : Asked) (status : Status) (source : H
   -- after a fault of the sink some first bytes of an answer were added
   pub prefix : status ≡ ends.WriteFault →
       WhereTold asked (source.tells source.before) (λ input.
-      (answered : Status) × (text : List ℕ) × IsAnswer asked answered input (devices.tells devices.before) text
+      (answered : Status) × (gate : Option Closed) × (text : List ℕ)
+      × IsAnswer asked answered input (devices.tells devices.before) gate text
       × AppendsPrefix (sink.tells sink.before) (sink.tells sink.after) text)
   -- without an answer nothing is written
   pub unwritten : (status ≡ ends.ReadFault) ⊎ (status ≡ ends.DeviceFault) ⊎ (status ≡ ends.NoMemory) →
@@ -58,13 +69,15 @@ pub record Serves {S K D : Type 0} (asked : Asked) (status : Status) (source : H
   pub source_stays : (row asked).most_input ≡ None → source.after ≡ source.before
   pub devices_stay : (row asked).asks_devices ≡ false → devices.after ≡ devices.before
   pub contents_stay : devices.tells devices.after ≡ devices.tells devices.before
+  -- a gate is handed out only where one ran and all is done
+  pub closed_stays : (status ≡ ends.Done → (row asked).runs_gate ≡ false) → closed.after ≡ closed.before
   -- no other status comes
   pub no_other : (status ≢ ends.Usage) × (status ≢ ends.No)
 
 -- what a run promises, by what its arguments ask for: where they ask for nothing it ends with wrong usage, and nothing is
--- read or written and no device asked; else that is served
-abbrev pub Runs : {S K D : Type 0} → Option Asked → Status → Handed S (List ℕ) → Handed K (List ℕ) → Handed D Contents → Type 0
-Runs None status source sink devices =
+-- read, written or handed out and no device asked; else that is served
+abbrev pub Runs : {S K D : Type 0} → Option Asked → Status → Handed S (List ℕ) → Handed K (List ℕ) → Handed D Contents → Out (Option Closed) → Type 0
+Runs None status source sink devices closed =
     (status ≡ ends.Usage) × (source.after ≡ source.before) × (sink.after ≡ sink.before)
-    × (devices.after ≡ devices.before)
-Runs (Some asked) status source sink devices = Serves asked status source sink devices
+    × (devices.after ≡ devices.before) × (closed.after ≡ closed.before)
+Runs (Some asked) status source sink devices closed = Serves asked status source sink devices closed

@@ -1,8 +1,10 @@
 -- What is read, which devices are asked and what is written, for all that can be asked.
 use Rattle.std.specs.Prelude.{◌≡◌, ℕ, ◌<◌, ◌≤◌, Bool, true, false, codes, List, [], length, Option, Some, None, IfSome, ◌⊎◌}
 use Rattle.blk_device.specs.Contents.{Contents}
+use Rattle.ipe_gate.specs.declared.meeting.Closed.{Closed}
+use Rattle.ipe_program.specs.declared.asked.Task.TheVariants.{Lint, Measure, Tree}
 use Rattle.ipe_program.specs.declared.asked.Asked.{Asked}
-use Rattle.ipe_program.specs.declared.asked.Asked.TheVariants.{Replay, Lint, Measure, Tree}
+use Rattle.ipe_program.specs.declared.asked.Asked.TheVariants.{Replay, Alone}
 use Rattle.ipe_program.specs.Lint.{IsLinted, IsFaulty}
 use Rattle.ipe_program.specs.Measure.{measure_text}
 use Rattle.ipe_program.specs.Replay.{IsReplay, IsReplayRefusal}
@@ -11,12 +13,14 @@ use Rattle.ipe_words.specs.declared.status.Status.{Status}
 use Rattle.ipe_words.specs.declared.status.Status.TheVariants as ends
 use Rattle.line_words.specs.Lines.{line_text}
 
--- what is answered to what is asked: the most bytes of the input, if it is read; whether devices are asked; and what text
--- it is where it is done, and where it is refused, by the bytes that are read and what the devices hold, where that is told
+-- what is answered to what is asked: the most bytes of the input, if it is read; whether devices are asked; whether a gate
+-- runs; and what text it is where it is done, and where it is refused, by the bytes that are read and what the devices
+-- hold, where that is told. Where a gate ran it is handed out, closed, with the text of what is done
 pub record Row : Type 1 where
   pub most_input : Option ℕ
   pub asks_devices : Bool
-  pub IsDone : List ℕ → Option Contents → List ℕ → Type 0
+  pub runs_gate : Bool
+  pub IsDone : List ℕ → Option Contents → Option Closed → List ℕ → Type 0
   pub IsRefused : List ℕ → Option Contents → List ℕ → Type 0
 
 -- the table of all that can be asked
@@ -24,25 +28,29 @@ abbrev pub row : Asked → Row
 row Replay = record {
   most_input = Some 16777216;
   asks_devices = true;
-  IsDone = λ input held text. IsReplay input held text;
+  runs_gate = true;
+  IsDone = λ input held closed text. IsReplay input held closed text;
   IsRefused = λ input held text. IsReplayRefusal input held text;
 }
-row Lint = record {
+row (Alone Lint) = record {
   most_input = Some 1048576;
   asks_devices = false;
-  IsDone = λ input held text. IsLinted input text;
+  runs_gate = false;
+  IsDone = λ input held closed text. IsLinted input text;
   IsRefused = λ input held text. IsFaulty input text;
 }
-row (Measure tree) = record {
+row (Alone (Measure tree)) = record {
   most_input = Some 16777216;
   asks_devices = false;
-  IsDone = λ input held text. text ≡ measure_text input tree;
+  runs_gate = false;
+  IsDone = λ input held closed text. text ≡ measure_text input tree;
   IsRefused = λ input held text. ⊥;
 }
-row (Tree part tree) = record {
+row (Alone (Tree part tree)) = record {
   most_input = None;
   asks_devices = true;
-  IsDone = λ input held text. IfSome held (λ items. IsOfTree part items tree text);
+  runs_gate = false;
+  IsDone = λ input held closed text. IfSome held (λ items. IsOfTree part items tree text);
   IsRefused = λ input held text. IfSome held (λ items. IsTreeRefusal items tree text);
 }
 
@@ -70,12 +78,13 @@ ByStatus IsDone IsRefused ends.NoMemory = ⊥
 abbrev pub HasText : Status → Type 0
 HasText status = (status ≡ ends.Done) ⊎ (status ≡ ends.Refused)
 
--- the text that is written for what is asked, by the status, the input and what the devices hold
-abbrev pub IsAnswer : Asked → Status → List ℕ → Option Contents → List ℕ → Type 0
-IsAnswer asked status input held text =
+-- the text that is written for what is asked, by the status, the input and what the devices hold, and the gate that is
+-- handed out with it
+abbrev pub IsAnswer : Asked → Status → List ℕ → Option Contents → Option Closed → List ℕ → Type 0
+IsAnswer asked status input held closed text =
     IsTooLong (row asked).most_input input text × (status ≡ ends.Refused)
     ⊎ Fits (row asked).most_input input
-    × ByStatus ((row asked).IsDone input held text) ((row asked).IsRefused input held text) status
+    × ByStatus ((row asked).IsDone input held closed text) ((row asked).IsRefused input held text) status
 
 -- what is told of the input, and nothing where it isn't read
 abbrev pub input_for : Option ℕ → Option (List ℕ) → Option (List ℕ)

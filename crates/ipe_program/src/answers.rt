@@ -1,37 +1,61 @@
-ghost use Rattle.std.specs.Prelude.{◌≡◌, IfOk, IsErrOf, false};
-ghost use Rattle.ipe_program.specs.Asked.{HasRule};
+ghost use Rattle.std.specs.Prelude.{◌≡◌, IfOk, IsErrOf, None, Some, false};
+ghost use Rattle.ipe_program.specs.Asked.{HasTaskRule};
 ghost use Rattle.ipe_program.specs.Table.{Fits, HasText, IsAnswer, row};
+ghost use Rattle.ipe_program.specs.declared.asked.Asked.{Asked};
 ghost use Rattle.ipe_words.specs.Count.{Rose};
 
-use crate::Asked;
 use crate::file_digest::measured;
 use crate::linter::linted;
-use crate::replay::replayed;
 use crate::tree::tree_told;
+use crate::{Closed, Task};
 use blk_device::Devices;
 use ipe_words::Status;
 use std::alloc::{AllocError, Global};
 
-/// The whole text of an answer, and the status that comes with it.
-#[derive(Debug, Drop)]
+/// The whole text of an answer, the status that comes with it, and the gate of a replay that is done.
+#[derive(Drop)]
 pub(crate) struct Answer {
     pub(crate) text: Vec<u8>,
     pub(crate) status: Status,
+    pub(crate) closed: Option<Closed>,
 }
 
 impl Answer {
     pub(crate) fn done(text: Vec<u8>) -> Self
-        ensures { result ≡ record { text = text; status = Status.Done } }
+        ensures { result ≡ record { text = text; status = Status.Done; closed = None } }
     {
         let status = Status::Done;
-        Answer { text, status }
+        let closed = None;
+        Answer {
+            text,
+            status,
+            closed,
+        }
+    }
+
+    /// The text is of a replay that ran on this gate.
+    pub(crate) fn replayed(text: Vec<u8>, gate: Closed) -> Self
+        ensures { result ≡ record { text = text; status = Status.Done; closed = Some gate } }
+    {
+        let status = Status::Done;
+        let closed = Some(gate);
+        Answer {
+            text,
+            status,
+            closed,
+        }
     }
 
     pub(crate) fn refused(text: Vec<u8>) -> Self
-        ensures { result ≡ record { text = text; status = Status.Refused } }
+        ensures { result ≡ record { text = text; status = Status.Refused; closed = None } }
     {
         let status = Status::Refused;
-        Answer { text, status }
+        let closed = None;
+        Answer {
+            text,
+            status,
+            closed,
+        }
     }
 }
 
@@ -54,27 +78,27 @@ impl From<AllocError> for Unanswered {
     }
 }
 
-/// The answer to what is asked, by the input that was read for it and the devices.
+/// The answer to a task, by the input that was read for it and the devices.
 pub(crate) fn answer_to<D: Devices>(
     alloc: Global,
-    asked: &Asked,
+    task: &Task,
     input: &[u8],
     devices: &mut D,
 ) -> Result<Answer, Unanswered>
-    requires rule { HasRule asked.now }
-    requires fits { Fits (row asked.now).most_input input.now }
-    ensures answer { IfOk result (λ answer.
-        IsAnswer asked.now answer.status input.now (D.contents devices.old) answer.text.items) }
+    requires rule { HasTaskRule task.now }
+    requires fits { Fits (row (Asked.Alone task.now)).most_input input.now }
+    ensures answer { IfOk result (λ answer. IsAnswer (Asked.Alone task.now) answer.status input.now
+        (D.contents devices.old) answer.closed answer.text.items) }
     ensures status { IfOk result (λ answer. HasText answer.status) }
+    ensures no_gate { IfOk result (λ answer. answer.closed ≡ None) }
     ensures unread { IsErrOf result Unanswered.ReadFault → ⊥ }
     ensures device_fault { IsErrOf result Unanswered.DeviceFault → Rose (D.faults devices.old) (D.faults devices.new) }
-    ensures devices_stay { (row asked.now).asks_devices ≡ false → devices.new ≡ devices.old }
+    ensures devices_stay { (row (Asked.Alone task.now)).asks_devices ≡ false → devices.new ≡ devices.old }
     ensures contents_stay { D.contents devices.new ≡ D.contents devices.old }
 {
-    match asked {
-        Asked::Replay => replayed(alloc, input, devices),
-        Asked::Lint => Ok(linted(alloc, input)?),
-        Asked::Measure(tree) => Ok(measured(alloc, tree, input)?),
-        Asked::Tree(part, tree) => tree_told(alloc, *part, tree, devices),
+    match task {
+        Task::Lint => Ok(linted(alloc, input)?),
+        Task::Measure(tree) => Ok(measured(alloc, tree, input)?),
+        Task::Tree(part, tree) => tree_told(alloc, *part, tree, devices),
     }
 }

@@ -1,6 +1,6 @@
 ghost use Rattle.std.specs.Prelude.{◌≡◌, ◌≢◌, IfOk, IfSome, IsTrue, None, OnErr, map, string_bytes};
 ghost use Rattle.fsv_tree.specs.Blocks.{is_file_block_size};
-ghost use Rattle.ipe_program.specs.Asked.{HasRule, asked_by, file_block_size_of, measure_by, tree_by};
+ghost use Rattle.ipe_program.specs.Asked.{HasRule, HasTaskRule, asked_by, file_block_size_of, measure_by, tree_by};
 ghost use Rattle.ipe_program.specs.Table.{row};
 
 use dmv_tree::{Salt, block_size_of};
@@ -19,8 +19,15 @@ const MOST_FILE_DIGITS: usize = 64;
 /// What can be asked for.
 #[derive(Debug, Drop)]
 pub enum Asked {
-    /// The transcript of the request file that is read.
+    /// The transcript of the request file that is read. Its lines run on threads.
     Replay,
+    /// What the calling thread does alone.
+    Alone(Task),
+}
+
+/// What can be asked for that one thread does alone.
+#[derive(Debug, Drop)]
+pub enum Task {
     /// What the linter says of the policy that is read.
     Lint,
     /// The file digest for fs-verity of the file that is read.
@@ -51,13 +58,13 @@ pub enum TreePart {
     HashBlocks,
 }
 
-impl Asked {
+impl Task {
     /// `measure` with copies of these.
-    pub fn measure(alloc: Global, block_size: u32, salt: &[u8]) -> Result<Asked, AllocError>
-        ensures { IfOk result (λ asked. asked ≡ Asked.Measure (record { block_size = block_size; salt = salt.now })) }
+    pub fn measure(alloc: Global, block_size: u32, salt: &[u8]) -> Result<Task, AllocError>
+        ensures { IfOk result (λ task. task ≡ Task.Measure (record { block_size = block_size; salt = salt.now })) }
     {
         let salt = Bytes::from_vec(salt.to_vec(alloc)?);
-        Ok(Asked::Measure(FileTree { block_size, salt }))
+        Ok(Task::Measure(FileTree { block_size, salt }))
     }
 
     /// A part of a tree, with copies of these.
@@ -67,26 +74,26 @@ impl Asked {
         block_size: u32,
         salt: &[u8],
         device: &[u8],
-    ) -> Result<Asked, AllocError>
-        ensures { IfOk result (λ asked. asked
-            ≡ Asked.Tree part (record { block_size = block_size; salt = salt.now; device = device.now })) }
+    ) -> Result<Task, AllocError>
+        ensures { IfOk result (λ task. task
+            ≡ Task.Tree part (record { block_size = block_size; salt = salt.now; device = device.now })) }
     {
         let tree = ImageTree {
             block_size,
             salt: Bytes::from_vec(salt.to_vec(alloc)?),
             device: Bytes::from_vec(device.to_vec(alloc)?),
         };
-        Ok(Asked::Tree(part, tree))
+        Ok(Task::Tree(part, tree))
     }
 
     /// The most bytes that are read for it, if any are.
     pub(crate) fn most_input(&self) -> Option<u64>
-        ensures { result ≡ (row self.now).most_input }
+        ensures { result ≡ (row (Asked.Alone self.now)).most_input }
     {
         match self {
-            Asked::Replay | Asked::Measure(_) => Some(16_777_216),
-            Asked::Lint => Some(1_048_576),
-            Asked::Tree(..) => None,
+            Task::Lint => Some(1_048_576),
+            Task::Measure(_) => Some(16_777_216),
+            Task::Tree(..) => None,
         }
     }
 }
@@ -99,24 +106,26 @@ pub(crate) fn asked_by(alloc: Global, words: &Vec<String>) -> Result<Option<Aske
 {
     match words.as_slice() {
         [word] if word.as_str() == "replay" => Ok(Some(Asked::Replay)),
-        [word] if word.as_str() == "lint" => Ok(Some(Asked::Lint)),
-        [word, size, salt] if word.as_str() == "measure" => measure_by(alloc, size, salt),
+        [word] if word.as_str() == "lint" => Ok(Some(Asked::Alone(Task::Lint))),
+        [word, size, salt] if word.as_str() == "measure" => {
+            Ok(measure_by(alloc, size, salt)?.map(Asked::Alone))
+        }
         [word, size, salt, device] if word.as_str() == "root" => {
-            tree_by(alloc, TreePart::Root, size, salt, device)
+            Ok(tree_by(alloc, TreePart::Root, size, salt, device)?.map(Asked::Alone))
         }
         _ => Ok(None),
     }
 }
 
-fn measure_by(alloc: Global, size: &String, salt: &String) -> Result<Option<Asked>, AllocError>
-    ensures asked { IfOk result (λ asked. asked ≡ measure_by (string_bytes size.now) (string_bytes salt.now)) }
-    ensures rule { IfOk result (λ asked. IfSome asked HasRule) }
+fn measure_by(alloc: Global, size: &String, salt: &String) -> Result<Option<Task>, AllocError>
+    ensures task { IfOk result (λ task. task ≡ measure_by (string_bytes size.now) (string_bytes salt.now)) }
+    ensures rule { IfOk result (λ task. IfSome task HasTaskRule) }
     ensures no_memory { OnErr result (measure_by (string_bytes size.now) (string_bytes salt.now) ≢ None) }
 {
     let salt = Salt::read(salt.as_bytes(), MOST_FILE_DIGITS);
     match (file_block_size_of(size.as_bytes()), salt) {
         (Some(block_size), Some(salt)) => {
-            Ok(Some(Asked::measure(alloc, block_size, salt.as_slice())?))
+            Ok(Some(Task::measure(alloc, block_size, salt.as_slice())?))
         }
         _ => Ok(None),
     }
@@ -129,10 +138,10 @@ pub fn tree_by(
     size: &String,
     salt: &String,
     device: &String,
-) -> Result<Option<Asked>, AllocError>
-    ensures asked { IfOk result (λ asked. asked
+) -> Result<Option<Task>, AllocError>
+    ensures task { IfOk result (λ task. task
         ≡ tree_by part (string_bytes size.now) (string_bytes salt.now) (string_bytes device.now)) }
-    ensures rule { IfOk result (λ asked. IfSome asked HasRule) }
+    ensures rule { IfOk result (λ task. IfSome task HasTaskRule) }
     ensures no_memory { OnErr result
         (tree_by part (string_bytes size.now) (string_bytes salt.now) (string_bytes device.now) ≢ None) }
 {
@@ -141,7 +150,7 @@ pub fn tree_by(
     match (block_size_of(size.as_bytes()), salt) {
         (Some(block_size), Some(salt)) if is_visible_word(device, MOST_DEVICE_NAME) => {
             let salt = salt.as_slice();
-            Ok(Some(Asked::tree(alloc, part, block_size, salt, device)?))
+            Ok(Some(Task::tree(alloc, part, block_size, salt, device)?))
         }
         _ => Ok(None),
     }

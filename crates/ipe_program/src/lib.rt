@@ -1,8 +1,13 @@
 //! The program `ipegate` as a library: from arguments, a source and devices to a sink.
 //!
 //! [`run`] reads what its arguments ask for and serves it. What can be asked for is the enum [`Asked`], and [`serve`] is the
-//! one shell around all of it: it reads the source as far as that is wanted, makes the whole answer, and writes it. [`lint`],
-//! [`measure`] and [`root`] serve without arguments.
+//! one shell around all of it: it reads the source as far as that is wanted, makes the whole answer, and writes it.
+//!
+//! A replay runs on threads, in each phase the administrator and all workers beside each other. When its transcript is
+//! written whole, [`run`] and [`serve`] hand out the gate that it ran on, closed: that gate's one history stands for the
+//! order of what is written. All else that can be asked for is a [`Task`], done by the calling thread alone:
+//! [`serve_alone`] serves one, and [`lint`], [`measure`] and [`root`] serve theirs without arguments. These start no thread
+//! and wait for none.
 #![tactic(auto)]
 
 mod answers;
@@ -15,9 +20,10 @@ mod replay;
 mod shell;
 mod tree;
 
-pub use asked::{Asked, FileTree, ImageTree, TreePart, tree_by};
+pub use asked::{Asked, FileTree, ImageTree, Task, TreePart, tree_by};
 pub use edge::arguments;
-pub use shell::{lint, measure, root, run, serve};
+pub use ipe_replay::{Closed, NoPace, Pace, Pass};
+pub use shell::{lint, measure, root, run, serve, serve_alone};
 pub use tree::Refusal;
 
 #[cfg(test)]

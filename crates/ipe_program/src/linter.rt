@@ -1,4 +1,4 @@
-ghost use Rattle.std.specs.Prelude.{◌≡◌, ◌≤◌, ◌++◌, length, codes, IfOk};
+ghost use Rattle.std.specs.Prelude.{◌≡◌, ◌≤◌, ◌++◌, length, codes, IfOk, None};
 ghost use Rattle.line_words.specs.Lines.{line_text};
 ghost use Rattle.ipe_program.specs.Lint.{IsFaulty, IsLinted, kind_name, lint_text};
 ghost use Rattle.ipe_program.specs.Table.{ByStatus};
@@ -12,8 +12,9 @@ use std::alloc::{AllocError, Global};
 /// The line that tells the policy that a text reads as, or its first fault.
 pub(crate) fn linted(alloc: Global, input: &[u8]) -> Result<Answer, AllocError>
     requires { length input.now ≤ 1048576 }
-    ensures { IfOk result (λ answer.
+    ensures answer { IfOk result (λ answer.
         ByStatus (IsLinted input.now answer.text.items) (IsFaulty input.now answer.text.items) answer.status) }
+    ensures no_gate { IfOk result (λ answer. answer.closed ≡ None) }
 {
     match parse(alloc, input) {
         Ok(policy) => Ok(Answer::done(ok_line(alloc, &policy)?)),

@@ -1,5 +1,6 @@
-ghost use Rattle.std.specs.Prelude.{◌≡◌, ◌≤◌, List, length, IfOk, IsErrOf, Some};
+ghost use Rattle.std.specs.Prelude.{◌≡◌, ◌≤◌, List, length, IfOk, IsErrOf, None, Some};
 ghost use Rattle.ipe_words.specs.Count.{Rose};
+ghost use Rattle.ipe_gate.specs.Meeting.{history};
 ghost use Rattle.ipe_lines.specs.Files.{files_of};
 ghost use Rattle.ipe_lines.specs.Spelled.{numbers_of, spelled};
 ghost use Rattle.ipe_lines.specs.Told.{TellInOrder};
@@ -9,9 +10,11 @@ ghost use Rattle.ipe_transcript.specs.Text.{transcript_text};
 ghost use Rattle.ipe_transcript.specs.declared.transcript.Entry.{Entry};
 ghost use Rattle.ipe_program.specs.Replay.{IsDeviceRefusal, IsReplay, IsReplayRefusal, IsTranscript, kind_name, refusal_text};
 ghost use Rattle.ipe_program.specs.Table.{ByStatus, HasText};
+ghost use Rattle.ipe_words.specs.declared.status.Status.{Status};
 
 use crate::answers::{Answer, Unanswered};
 use crate::refusals::{bad_line, device_line};
+use crate::{Closed, Pace};
 use blk_device::Devices;
 use ipe_lines::transcripts_spell_their_order;
 use ipe_objects::{Images, ImagesError, load_images};
@@ -22,25 +25,34 @@ use ipe_requests::{
 };
 use ipe_transcript::print_transcript;
 use std::alloc::{AllocError, Global};
+use std::sync::Wait;
+use std::thread::Threads;
+
+/// The most bytes of a request file.
+pub(crate) const MOST_REQUESTS: u64 = 16_777_216;
 
 /// The transcript of a request file over the devices that it names, or the line that tells its first bad line or the first
-/// of its devices that is refused.
-pub(crate) fn replayed<D: Devices>(
+/// of its devices that is refused. Its lines run on threads, and with the transcript comes the gate that they ran on, closed.
+pub(crate) fn replayed<R: Threads + Wait + Sync, D: Devices, P: Pace>(
+    rt: &R,
     alloc: Global,
     input: &[u8],
     devices: &mut D,
+    pace: &P,
 ) -> Result<Answer, Unanswered>
     requires { length input.now ≤ 16777216 }
-    ensures answer { IfOk result (λ answer. ByStatus (IsReplay input.now (D.contents devices.old) answer.text.items)
+    ensures answer { IfOk result (λ answer.
+        ByStatus (IsReplay input.now (D.contents devices.old) answer.closed answer.text.items)
         (IsReplayRefusal input.now (D.contents devices.old) answer.text.items) answer.status) }
     ensures status { IfOk result (λ answer. HasText answer.status) }
+    ensures no_gate { IfOk result (λ answer. answer.status ≡ Status.Refused → answer.closed ≡ None) }
     ensures unread { IsErrOf result Unanswered.ReadFault → ⊥ }
     ensures failed { IsErrOf result Unanswered.DeviceFault → Rose (D.faults devices.old) (D.faults devices.new) }
     ensures same { D.contents devices.new ≡ D.contents devices.old }
 {
     bytes_are_requests_or_have_a_first_bad_line();
     match parse_requests(alloc, input) {
-        Ok(requests) => over_devices(alloc, &requests, devices),
+        Ok(requests) => over_devices(rt, alloc, &requests, devices, pace),
         Err(ScriptError::Bad { line, kind }) => {
             Ok(Answer::refused(bad_line(alloc, line, name_of(kind))?))
         }
@@ -49,21 +61,27 @@ pub(crate) fn replayed<D: Devices>(
 }
 
 // The transcript of requests over the devices that they name, or the line that refuses one of these.
-fn over_devices<D: Devices>(
+fn over_devices<R: Threads + Wait + Sync, D: Devices, P: Pace>(
+    rt: &R,
     alloc: Global,
     requests: &Requests,
     devices: &mut D,
+    pace: &P,
 ) -> Result<Answer, Unanswered>
     ensures answer { IfOk result (λ answer.
-        ByStatus (IsTranscript requests.now (D.contents devices.old) answer.text.items)
+        ByStatus (IsTranscript requests.now (D.contents devices.old) answer.closed answer.text.items)
         (IsDeviceRefusal requests.now (D.contents devices.old) answer.text.items) answer.status) }
     ensures status { IfOk result (λ answer. HasText answer.status) }
+    ensures no_gate { IfOk result (λ answer. answer.status ≡ Status.Refused → answer.closed ≡ None) }
     ensures unread { IsErrOf result Unanswered.ReadFault → ⊥ }
     ensures failed { IsErrOf result Unanswered.DeviceFault → Rose (D.faults devices.old) (D.faults devices.new) }
     ensures same { D.contents devices.new ≡ D.contents devices.old }
 {
     match load_images(alloc, requests, devices) {
-        Ok(images) => Ok(Answer::done(transcript(alloc, requests, &images)?)),
+        Ok(images) => {
+            let (text, gate) = transcript(rt, alloc, requests, &images, pace)?;
+            Ok(Answer::replayed(text, gate))
+        }
         Err(error) => Ok(Answer::refused(refused_device(alloc, error)?)),
     }
 }
@@ -83,17 +101,24 @@ fn refused_device(alloc: Global, error: ImagesError) -> Result<Vec<u8>, Unanswer
     }
 }
 
-// The text of the transcript of requests whose devices have these images.
-fn transcript(alloc: Global, requests: &Requests, images: &Images) -> Result<Vec<u8>, AllocError>
+// The text of the transcript of requests whose devices have these images, and the gate that they ran on, closed.
+fn transcript<R: Threads + Wait + Sync, P: Pace>(
+    rt: &R,
+    alloc: Global,
+    requests: &Requests,
+    images: &Images,
+    pace: &P,
+) -> Result<(Vec<u8>, Closed), AllocError>
     requires { AreImages requests.now images.now }
-    ensures { IfOk result (λ text. (entries : List (List Entry))
-        × TellInOrder requests.now (files_of requests.now images.now) entries
-        × (text.items ≡ transcript_text entries) × (spelled text.items ≡ numbers_of entries)) }
+    ensures { IfOk result (λ made. (entries : List (List Entry))
+        × TellInOrder requests.now (files_of requests.now images.now) (history made.1) entries
+        × (made.0.items ≡ transcript_text entries) × (spelled made.0.items ≡ numbers_of entries)) }
 {
     requests_are_read_of_their_spelling(requests);
     transcripts_spell_their_order();
-    let transcript = replay(alloc, requests, images)?;
-    print_transcript(alloc, &transcript)
+    let (transcript, gate) = replay(rt, alloc, requests, images, pace)?;
+    let text = print_transcript(alloc, &transcript)?;
+    Ok((text, gate))
 }
 
 // The name of what is wrong with a line.

@@ -1,11 +1,11 @@
-ghost use Rattle.std.specs.Prelude.{◌≡◌, ◌≢◌, ◌<◌, ◌≤◌, length, IfErr, IfNone, IfOk, IfSome, IsErrOf, IsTrue, Some, string_bytes};
+ghost use Rattle.std.specs.Prelude.{◌≡◌, ◌≢◌, ◌<◌, ◌≤◌, length, IfErr, IfNone, IfOk, IfSome, IsErrOf, IsTrue, None, Some, string_bytes};
 ghost use Rattle.ipe_words.specs.Count.{Rose};
 ghost use Rattle.dmv_tree.specs.Blocks.{AreBlocks, is_block_size};
-ghost use Rattle.ipe_program.specs.Asked.{HasRule};
+ghost use Rattle.ipe_program.specs.Asked.{HasTaskRule};
 ghost use Rattle.ipe_program.specs.Tree.{AreNoBlocks, HasImage, IsOfTree, IsRefusedFor, IsTreeRefusal};
 ghost use Rattle.ipe_program.specs.Tree.{refusal_words, root_line, shape_text, tree_text};
 ghost use Rattle.ipe_program.specs.Table.{ByStatus, HasText};
-ghost use Rattle.ipe_program.specs.declared.asked.Asked.{Asked};
+ghost use Rattle.ipe_program.specs.declared.asked.Task.{Task};
 
 use crate::answers::{Answer, Unanswered};
 use crate::refusals::device_line;
@@ -38,11 +38,12 @@ pub(crate) fn tree_told<D: Devices>(
     tree: &ImageTree,
     devices: &mut D,
 ) -> Result<Answer, Unanswered>
-    requires { HasRule (Asked.Tree part tree.now) }
+    requires { HasTaskRule (Task.Tree part tree.now) }
     ensures answer { IfOk result (λ answer. IfSome (D.contents devices.old) (λ items.
         ByStatus (IsOfTree part items tree.now answer.text.items) (IsTreeRefusal items tree.now answer.text.items)
         answer.status)) }
     ensures status { IfOk result (λ answer. HasText answer.status) }
+    ensures no_gate { IfOk result (λ answer. answer.closed ≡ None) }
     ensures unread { IsErrOf result Unanswered.ReadFault → ⊥ }
     ensures failed { IsErrOf result Unanswered.DeviceFault → Rose (D.faults devices.old) (D.faults devices.new) }
     ensures same { D.contents devices.new ≡ D.contents devices.old }

@@ -1,15 +1,17 @@
 -- A request file has no more phases than bytes.
-use Rattle.std.proofs.Common.{◌≡◌, ℕ, suc, ◌+◌, ◌≤◌, ◌++◌, List, [], ◌∷◌, length, arith}
+use Rattle.std.proofs.Common.{◌≡◌, ℕ, ◌≤◌, ◌++◌, List, [], ◌∷◌, length, sym, subst, arith}
 use Rattle.std.proofs.lemmas.List.{length-append}
+use Rattle.std.proofs.lemmas.List.Concat.{length-flat_map}
 use Rattle.std.specs.List.{concat, flat_map}
 use Rattle.line_words.specs.Lines.{joined}
 use Rattle.ipe_requests.specs.declared.line.Line.TheVariants as line
-use Rattle.ipe_requests.specs.declared.line.Shape.TheVariants as shape
 use Rattle.ipe_requests.specs.declared.script.Phase.{Phase}
 use Rattle.ipe_requests.specs.Law.{IsOfFile}
 use Rattle.ipe_requests.specs.Reading.{spell_cells}
 use Rattle.ipe_requests.specs.Requests.{Script}
+use Rattle.ipe_requests.specs.Rules.{count_lines}
 use Rattle.ipe_requests.specs.Spelling.{asked_text, body_text, file_text, head_text, mark_text, phase_text, request_text, said_text, seal_text, shape_for, text_text, values_of, volume_text}
+use Rattle.ipe_replay.specs.Phases.{lines_in}
 use Rattle.ipe_requests.specs.Table.{cells}
 
 -- a line has a byte at least
@@ -44,6 +46,7 @@ last-within a b c d e f =
       length-append f [],
     )
 
+-- so it has no more phases than a request file may have bytes
 pub few-phases : (script : Script) → IsOfFile script → length script.phases ≤ 16777216
 few-phases script of =
     let head = head_text script.workers in
@@ -57,3 +60,8 @@ few-phases script of =
           (flat_map seal_text script.seals) (flat_map mark_text script.marks) (flat_map phase_text script.phases),
       phases-bytes script.phases,
     )
+
+-- nor more lines
+pub few-lines : (script : Script) (phases : List Phase) → phases ≡ script.phases → count_lines script ≤ length (request_text script) → IsOfFile script → length (lines_in phases) ≤ 16777216
+few-lines script phases are counted of =
+    subst (λ (ps : List Phase). length (lines_in ps) ≤ 16777216) (sym are) (omega (arith, length-flat_map (λ (phase : Phase). phase.lines) script.phases, counted, of.few))

@@ -1,7 +1,4 @@
-pub mod CommandLemmas
 pub mod DigestLemmas
+pub mod Ending
 pub mod Few
-pub mod FileLemmas
-pub mod HookLemmas
-pub mod LineLemmas
-pub mod RoomLemmas
+pub mod Running

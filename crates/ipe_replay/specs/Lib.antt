@@ -1,3 +1,2 @@
-pub mod Room
 pub mod Digests
-pub mod Setting
+pub mod Phases

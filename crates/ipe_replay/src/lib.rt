@@ -1,19 +1,17 @@
-//! From a request file and the images of its devices to its transcript, on one thread.
+//! From a request file and the images of its devices to its transcript, on a running gate.
 //!
-//! [`replay`] takes the lines in the order of the file, and makes of each an entry: a write is a command, which has its
-//! records after it; a read is what a node shows; a hook is a claim, which is returned at once, with the record of the
-//! access where one is due and what its file comes to where it is read. The entries of each phase are then put in order.
+//! [`replay`] starts a gate with a pass for each worker, and runs the request file's phases one after another: in each, the
+//! administrator and all workers beside each other, on threads. Then it closes the gate, and puts the entries of each phase
+//! in their order, for which the gate's one history stands.
 #![tactic(auto)]
 
-mod commands;
-mod content;
-mod hooks;
-mod lines;
 mod marks;
-mod running;
-mod texts;
+mod phases;
+mod transcript;
 
-pub use lines::replay;
+pub use ipe_gate::{Closed, Pass};
+pub use ipe_workers::{NoPace, Pace};
+pub use transcript::replay;
 
 #[cfg(test)]
 mod tests;

@@ -3,10 +3,10 @@ ghost use Rattle.sha2.specs.Sha256.{sha256};
 ghost use Rattle.ipe_lines.specs.Asked.{digest_of, mark_of, marks_of, purpose_of, says, text_bytes};
 ghost use Rattle.ipe_replay.specs.Digests.{AreDigests, bytes_at};
 
-use ipe_core::{Mark, Marks, Purpose, TrustList, Verdict};
 use ipe_objects::Declared;
 use ipe_policy::DigestBytes;
 use ipe_requests::{MarkDigest, MarkLine, MarkPurpose, MarkVerdict, Requests};
+use ipe_signer::{Mark, Marks, Purpose, TrustList, Verdict};
 use sha2::{Digest, Sha256};
 use std::alloc::{AllocError, Global};
 

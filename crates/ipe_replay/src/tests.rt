@@ -22,6 +22,7 @@ admin write policies/a/name echo b
 admin read policies/a/version
 admin read policies/b/name
 admin write enforce hex 30
+phase
 w1 exec 7 sh /init
 end
 ";
@@ -39,7 +40,8 @@ line=14 admin code=0 epoch=1 bytes=312e302e30
 line=15 admin code=-2 epoch=1
 line=16 admin code=0 epoch=2
 type=1404 enforcing=0 old_enforcing=1 auid=4294967295 ses=4294967295 enabled=1 old-enabled=1 lsm=ipe res=1
-line=17 w1 code=0 epoch=2 count=0 policy=1 by=global
+phase 2
+line=18 w1 code=0 epoch=2 count=0 policy=1 by=global
 type=1420 ipe_op=EXECUTE ipe_hook=BPRM_CHECK enforcing=0 pid=7 comm=\"sh\" path=\"/init\" dev=\"rootfs\" ino=2 rule=\"DEFAULT action=DENY\"
 content sha256:a379bae772373d7f97146b18170544282ef65ddc391eba2093c6c425c9dd1669
 end
@@ -54,7 +56,8 @@ fn a_transcript_has_entries_records_and_contents(rt: HostRuntime) -> Result<(), 
     let images = load_images(alloc, &requests, &mut devices)
         .ok()
         .ok_or("images")?;
-    let transcript = replay(alloc, &requests, &images)?;
+    let (transcript, closed) = replay(&rt, alloc, &requests, &images, &NoPace)?;
+    assert_eq!(rt; (closed.epoch, closed.count), (2, 1));
     let text = print_transcript(alloc, &transcript)?;
     assert_eq!(rt; text.as_slice(), ANSWER.as_bytes());
     Ok(())

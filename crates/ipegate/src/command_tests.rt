@@ -80,6 +80,7 @@ phase
 admin write policies/a/update text b
 admin write policies/a/update text c
 admin write policies/a/update text d
+phase
 w1 exec 1 init /init
 end
 ";
@@ -96,7 +97,8 @@ type=1422 policy_name=\"a\" policy_version=1.0.0 policy_digest=sha256:101c4a7be1
 type=1421 old_active_pol_name=\"a\" old_active_pol_version=1.0.0 old_policy_digest=sha256:a12fb4d91e8e66793020762fce63ca775103cd329a72d6a4734d290181673120 new_active_pol_name=\"a\" new_active_pol_version=1.0.0 new_policy_digest=sha256:101c4a7be158480cd54b52e4f18ca0bf5baf76e21c20f416b61bd481edbb168c auid=4294967295 ses=4294967295 lsm=ipe res=1
 line=28 admin code=-116 epoch=2
 line=29 admin code=-22 epoch=2
-line=30 w1 code=0 epoch=2 count=0 policy=2 by=global
+phase 3
+line=31 w1 code=0 epoch=2 count=0 policy=2 by=global
 content sha256:5891b5b522d5df086d0ff0b110fbd9d21bb4fc7163af34d08286a2e846f6be03
 end
 ";
@@ -205,7 +207,7 @@ fn commands_are_answered_and_recorded(rt: HostRuntime) -> Result<(), Fail> {
         (DELETIONS, DELETIONS_ANSWER),
         (NODES, NODES_ANSWER),
     ] {
-        let (status, written) = answered(rt.alloc(), &["replay"], input.as_bytes())?;
+        let (status, written) = answered(&rt, rt.alloc(), &["replay"], input.as_bytes())?;
         assert_eq!(rt; status, 0, "{input}");
         assert_eq!(rt; written.as_slice(), answer.as_bytes(), "{input}");
     }

@@ -66,7 +66,7 @@ fn a_text_is_too_wide_or_too_big(rt: HostRuntime) -> Result<(), Fail> {
         ),
     ] {
         let input = loading(rt.alloc(), line, lines, last, mark)?;
-        let (status, written) = answered(rt.alloc(), &["replay"], input.as_bytes())?;
+        let (status, written) = answered(&rt, rt.alloc(), &["replay"], input.as_bytes())?;
         assert_eq!(rt; status, 0, "{last}{mark}");
         assert!(rt;
             written.as_slice().ends_with(answer.as_bytes()),
@@ -108,7 +108,7 @@ fn thirty_two_policies_are_kept(rt: HostRuntime) -> Result<(), Fail> {
         let mut input = loading_each(rt.alloc(), policies)?;
         input.push_str(again)?;
         input.push_str("end\n")?;
-        let (status, written) = answered(rt.alloc(), &["replay"], input.as_bytes())?;
+        let (status, written) = answered(&rt, rt.alloc(), &["replay"], input.as_bytes())?;
         assert_eq!(rt; status, 0);
         assert!(rt; written.as_slice().ends_with(answer.as_bytes()));
     }

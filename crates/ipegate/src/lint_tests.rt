@@ -92,7 +92,7 @@ fn policies_are_linted(rt: HostRuntime) -> Result<(), Fail> {
             "refused line 1: BadVersion\n",
         ),
     ] {
-        let (found, written) = answered(rt.alloc(), &["lint"], text.as_bytes())?;
+        let (found, written) = answered(&rt, rt.alloc(), &["lint"], text.as_bytes())?;
         assert_eq!(rt; found, status, "{text}");
         assert_eq!(rt; written.as_slice(), answer.as_bytes(), "{text}");
     }
@@ -134,7 +134,7 @@ fn each_fault_of_a_header_is_named(rt: HostRuntime) -> Result<(), Fail> {
             "refused line 1: BadVersion\n",
         ),
     ] {
-        let (status, written) = answered(rt.alloc(), &["lint"], text.as_bytes())?;
+        let (status, written) = answered(&rt, rt.alloc(), &["lint"], text.as_bytes())?;
         assert_eq!(rt; status, 3, "{text}");
         assert_eq!(rt; written.as_slice(), answer.as_bytes(), "{text}");
     }
@@ -197,7 +197,7 @@ fn each_fault_of_a_statement_is_named(rt: HostRuntime) -> Result<(), Fail> {
             "policy_name=a\tpolicy_version=1.0.0\r\nDEFAULT action=DENY\n{line}"
         )?;
         let answer = format!(in rt.alloc(); "refused line 3: {kind}\n")?;
-        let (status, written) = answered(rt.alloc(), &["lint"], text.as_bytes())?;
+        let (status, written) = answered(&rt, rt.alloc(), &["lint"], text.as_bytes())?;
         assert_eq!(rt; status, 3, "{line}");
         assert_eq!(rt; written.as_slice(), answer.as_bytes(), "{line}");
     }
@@ -210,7 +210,7 @@ fn the_first_of_two_faulty_lines_is_named(rt: HostRuntime) -> Result<(), Fail> {
         (AN_OPERATION_AND_AN_ACTION, "refused line 3: BadOp\n"),
         (AN_ACTION_AND_AN_OPERATION, "refused line 3: BadAction\n"),
     ] {
-        let (status, written) = answered(rt.alloc(), &["lint"], text.as_bytes())?;
+        let (status, written) = answered(&rt, rt.alloc(), &["lint"], text.as_bytes())?;
         assert_eq!(rt; status, 3, "{text}");
         assert_eq!(rt; written.as_slice(), answer.as_bytes(), "{text}");
     }

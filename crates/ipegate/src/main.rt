@@ -5,7 +5,7 @@
 #![tactic(auto)]
 
 use blk_device::FileDevices;
-use ipe_program::{arguments, run};
+use ipe_program::{NoPace, arguments, run};
 use ipe_words::{StdSink, StdSource};
 use std::io;
 use std::process::ExitCode;
@@ -16,7 +16,16 @@ fn main(rt: HostRuntime) -> ExitCode {
             let mut source = StdSource::new(rt.reader());
             let mut sink = StdSink::new(io::writer(&rt));
             let mut devices = FileDevices::new(&rt);
-            run(rt.alloc(), &words, &mut source, &mut sink, &mut devices)
+            run(
+                &rt,
+                rt.alloc(),
+                &words,
+                &mut source,
+                &mut sink,
+                &mut devices,
+                &NoPace,
+                &mut None,
+            )
         }
         Err(status) => status,
     };
@@ -43,3 +52,5 @@ mod replay_tests;
 mod root_tests;
 #[cfg(test)]
 mod tests;
+#[cfg(test)]
+mod thread_tests;

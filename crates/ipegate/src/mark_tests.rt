@@ -125,7 +125,7 @@ fn a_load_needs_a_policy_that_the_last_mark_trusts(rt: HostRuntime) -> Result<()
         (MARKED_AGAIN, MARKED_AGAIN_ANSWER),
         (BAD_TEXTS, BAD_TEXTS_ANSWER),
     ] {
-        let (status, written) = answered(rt.alloc(), &["replay"], input.as_bytes())?;
+        let (status, written) = answered(&rt, rt.alloc(), &["replay"], input.as_bytes())?;
         assert_eq!(rt; status, 0, "{input}");
         assert_eq!(rt; written.as_slice(), answer.as_bytes(), "{input}");
     }

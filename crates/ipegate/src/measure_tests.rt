@@ -1,12 +1,15 @@
 use super::tests::{answered, owned};
 use blk_device::{ImageDevices, NamedBytes};
-use ipe_program::run;
+use ipe_program::{NoPace, run};
 use ipe_words::{MemorySink, MemorySource};
 use std::alloc::{AllocError, Global};
+use std::sync::Wait;
 use std::test::Fail;
+use std::thread::Threads;
 
 /// The status and what was written of an input, where the calls of these numbers fail.
-fn measured(
+fn measured<R: Threads + Wait + Sync>(
+    rt: &R,
     alloc: Global,
     block_size_and_salt: [&str; 2],
     input: Vec<u8>,
@@ -19,7 +22,16 @@ fn measured(
     let mut sink = MemorySink::new(alloc, 16, 4096, failing_writes.to_vec(alloc)?)?;
     let items = NamedBytes::from_vec(Vec::new(alloc));
     let mut devices = ImageDevices::new(&items);
-    let status = run(alloc, &words, &mut source, &mut sink, &mut devices);
+    let status = run(
+        rt,
+        alloc,
+        &words,
+        &mut source,
+        &mut sink,
+        &mut devices,
+        &NoPace,
+        &mut None,
+    );
     Ok((status.number(), sink.written().to_vec(alloc)?))
 }
 
@@ -90,7 +102,7 @@ fn files_have_their_digests(rt: HostRuntime) -> Result<(), Fail> {
             "sha256:026b9265ed9c705c9cc7706efecff3655cdd28ba0d44e3b8f4a3350e054ad340\n",
         ),
     ] {
-        let (status, written) = measured(alloc, [block_size, salt], input, &[], &[])?;
+        let (status, written) = measured(&rt, alloc, [block_size, salt], input, &[], &[])?;
         assert_eq!(rt; status, 0, "{answer}");
         assert_eq!(rt; written.as_slice(), answer.as_bytes(), "{answer}");
     }
@@ -100,7 +112,7 @@ fn files_have_their_digests(rt: HostRuntime) -> Result<(), Fail> {
 #[test]
 fn a_file_above_the_limit_is_too_long(rt: HostRuntime) -> Result<(), Fail> {
     let input = vec![in rt.alloc(); 0; 16_777_217]?;
-    let (status, written) = measured(rt.alloc(), ["4096", "-"], input, &[], &[])?;
+    let (status, written) = measured(&rt, rt.alloc(), ["4096", "-"], input, &[], &[])?;
     assert_eq!(rt; status, 3);
     assert_eq!(rt; written.as_slice(), b"refused: too long\n".as_slice());
     Ok(())
@@ -108,10 +120,24 @@ fn a_file_above_the_limit_is_too_long(rt: HostRuntime) -> Result<(), Fail> {
 
 #[test]
 fn faults_of_sources_and_sinks_are_told(rt: HostRuntime) -> Result<(), Fail> {
-    let (status, written) = measured(rt.alloc(), ["4096", "-"], Vec::new(rt.alloc()), &[1], &[])?;
+    let (status, written) = measured(
+        &rt,
+        rt.alloc(),
+        ["4096", "-"],
+        Vec::new(rt.alloc()),
+        &[1],
+        &[],
+    )?;
     assert_eq!(rt; status, 4);
     assert_eq!(rt; written.len(), 0);
-    let (status, written) = measured(rt.alloc(), ["4096", "-"], Vec::new(rt.alloc()), &[], &[2])?;
+    let (status, written) = measured(
+        &rt,
+        rt.alloc(),
+        ["4096", "-"],
+        Vec::new(rt.alloc()),
+        &[],
+        &[2],
+    )?;
     assert_eq!(rt; status, 5);
     assert_eq!(rt; written.as_slice(), b"sha256:3d248ca54".as_slice());
     Ok(())
@@ -120,7 +146,7 @@ fn faults_of_sources_and_sinks_are_told(rt: HostRuntime) -> Result<(), Fail> {
 #[test]
 fn words_that_measure_nothing_are_refused(rt: HostRuntime) -> Result<(), Fail> {
     let digits = "0123456789abcdef0123456789abcdef0123456789abcdef0123456789abcdef";
-    let (status, _) = answered(rt.alloc(), &["measure", "1024", digits], b"")?;
+    let (status, _) = answered(&rt, rt.alloc(), &["measure", "1024", digits], b"")?;
     assert_eq!(rt; status, 0);
     let more_digits = format!(in rt.alloc(); "{digits}01")?;
     for (block_size, salt) in [
@@ -130,11 +156,11 @@ fn words_that_measure_nothing_are_refused(rt: HostRuntime) -> Result<(), Fail> {
         ("1024", "ag"),
         ("1024", more_digits.as_str()),
     ] {
-        let (status, written) = answered(rt.alloc(), &["measure", block_size, salt], b"")?;
+        let (status, written) = answered(&rt, rt.alloc(), &["measure", block_size, salt], b"")?;
         assert_eq!(rt; status, 2, "{block_size} {salt}");
         assert_eq!(rt; written.len(), 0);
     }
-    let (status, written) = answered(rt.alloc(), &["measure", "1024", "-", "-"], b"")?;
+    let (status, written) = answered(&rt, rt.alloc(), &["measure", "1024", "-", "-"], b"")?;
     assert_eq!(rt; status, 2);
     assert_eq!(rt; written.len(), 0);
     Ok(())

@@ -1,12 +1,14 @@
-use super::tests::answered;
+use super::tests::{answered, owned};
 use blk_device::{ImageDevices, NamedBytes};
-use ipe_program::run;
+use ipe_program::{Closed, NoPace, run};
 use ipe_words::{MemorySink, MemorySource};
 use std::alloc::{AllocError, Global};
+use std::sync::Wait;
 use std::test::Fail;
+use std::thread::Threads;
 
 /// One policy that lets the initial root file system run, and a file of it that is run.
-const FIRST_CHECK: &str = "ipe-requests 1
+pub const FIRST_CHECK: &str = "ipe-requests 1
 workers 1
 text a 3
 policy_name=a policy_version=1.0.0
@@ -24,7 +26,7 @@ w1 exec 1 init /init
 end
 ";
 
-const FIRST_CHECK_ANSWER: &str = "ipe-transcript 1
+pub const FIRST_CHECK_ANSWER: &str = "ipe-transcript 1
 phase 1
 line=12 admin code=0 epoch=0
 type=1422 policy_name=\"a\" policy_version=1.0.0 policy_digest=sha256:a12fb4d91e8e66793020762fce63ca775103cd329a72d6a4734d290181673120 auid=4294967295 ses=4294967295 lsm=ipe res=1 errno=0
@@ -97,7 +99,8 @@ end
 ";
 
 /// The status and what was written, where the calls of these numbers fail.
-fn replayed(
+fn replayed<R: Threads + Wait + Sync>(
+    rt: &R,
     alloc: Global,
     input: &[u8],
     failing_reads: &[u32],
@@ -109,7 +112,16 @@ fn replayed(
     let mut sink = MemorySink::new(alloc, 16, 4096, failing_writes.to_vec(alloc)?)?;
     let items = NamedBytes::from_vec(Vec::new(alloc));
     let mut devices = ImageDevices::new(&items);
-    let status = run(alloc, &words, &mut source, &mut sink, &mut devices);
+    let status = run(
+        rt,
+        alloc,
+        &words,
+        &mut source,
+        &mut sink,
+        &mut devices,
+        &NoPace,
+        &mut None,
+    );
     Ok((status.number(), sink.written().to_vec(alloc)?))
 }
 
@@ -129,7 +141,7 @@ fn inputs_have_their_answers(rt: HostRuntime) -> Result<(), Fail> {
         (unknown, 3, "refused line 3: Unknown\n"),
         ("", 3, "refused line 1: Unended\n"),
     ] {
-        let (found, written) = replayed(rt.alloc(), input.as_bytes(), &[], &[])?;
+        let (found, written) = replayed(&rt, rt.alloc(), input.as_bytes(), &[], &[])?;
         assert_eq!(rt; found, status, "{input}");
         assert_eq!(rt; written.as_slice(), answer.as_bytes(), "{input}");
     }
@@ -146,7 +158,16 @@ fn an_input_above_the_limit_is_too_long(rt: HostRuntime) -> Result<(), Fail> {
     let mut sink = MemorySink::new(alloc, 4096, 4096, Vec::new(alloc))?;
     let items = NamedBytes::from_vec(Vec::new(alloc));
     let mut devices = ImageDevices::new(&items);
-    let status = run(alloc, &words, &mut source, &mut sink, &mut devices);
+    let status = run(
+        &rt,
+        alloc,
+        &words,
+        &mut source,
+        &mut sink,
+        &mut devices,
+        &NoPace,
+        &mut None,
+    );
     assert_eq!(rt; status.number(), 3);
     assert_eq!(rt; sink.written(), b"refused: too long\n".as_slice());
     Ok(())
@@ -154,11 +175,11 @@ fn an_input_above_the_limit_is_too_long(rt: HostRuntime) -> Result<(), Fail> {
 
 #[test]
 fn faults_are_told(rt: HostRuntime) -> Result<(), Fail> {
-    let (status, written) = replayed(rt.alloc(), FIRST_CHECK.as_bytes(), &[1], &[])?;
+    let (status, written) = replayed(&rt, rt.alloc(), FIRST_CHECK.as_bytes(), &[1], &[])?;
     assert_eq!(rt; status, 4);
     assert_eq!(rt; written.len(), 0);
     // The two calls before the one that fails have taken 16 bytes each.
-    let (status, written) = replayed(rt.alloc(), FIRST_CHECK.as_bytes(), &[], &[3])?;
+    let (status, written) = replayed(&rt, rt.alloc(), FIRST_CHECK.as_bytes(), &[], &[3])?;
     assert_eq!(rt; status, 5);
     assert_eq!(rt;
         written.as_slice(),
@@ -167,15 +188,54 @@ fn faults_are_told(rt: HostRuntime) -> Result<(), Fail> {
     Ok(())
 }
 
+/// The gate that is handed out, where the writes of these numbers fail.
+fn gate_after<R: Threads + Wait + Sync>(
+    rt: &R,
+    alloc: Global,
+    input: &str,
+    failing_writes: &[u32],
+) -> Result<Option<Closed>, AllocError> {
+    let words = owned(alloc, &["replay"])?;
+    let mut source = MemorySource::new(input.as_bytes().to_vec(alloc)?, 100, Vec::new(alloc));
+    let mut sink = MemorySink::new(alloc, 16, 4096, failing_writes.to_vec(alloc)?)?;
+    let items = NamedBytes::from_vec(Vec::new(alloc));
+    let mut devices = ImageDevices::new(&items);
+    let mut closed = None;
+    let _ = run(
+        rt,
+        alloc,
+        &words,
+        &mut source,
+        &mut sink,
+        &mut devices,
+        &NoPace,
+        &mut closed,
+    );
+    Ok(closed)
+}
+
+/// One policy is made active, and one claim is made after it.
+#[test]
+fn a_gate_is_handed_out_once_all_is_written(rt: HostRuntime) -> Result<(), Fail> {
+    let gate = gate_after(&rt, rt.alloc(), FIRST_CHECK, &[])?.ok_or("no gate")?;
+    assert_eq!(rt; gate.epoch, 1);
+    assert_eq!(rt; gate.count, 1);
+    let none = gate_after(&rt, rt.alloc(), FIRST_CHECK, &[3])?;
+    assert!(rt; none.is_none());
+    let none = gate_after(&rt, rt.alloc(), "", &[])?;
+    assert!(rt; none.is_none());
+    Ok(())
+}
+
 #[test]
 fn other_words_are_refused(rt: HostRuntime) -> Result<(), Fail> {
-    let (none, written) = answered(rt.alloc(), &[], b"")?;
+    let (none, written) = answered(&rt, rt.alloc(), &[], b"")?;
     assert_eq!(rt; none, 2);
     assert_eq!(rt; written.len(), 0);
-    let (other, written) = answered(rt.alloc(), &["repeat"], b"")?;
+    let (other, written) = answered(&rt, rt.alloc(), &["repeat"], b"")?;
     assert_eq!(rt; other, 2);
     assert_eq!(rt; written.len(), 0);
-    let (twice, written) = answered(rt.alloc(), &["replay", "replay"], b"")?;
+    let (twice, written) = answered(&rt, rt.alloc(), &["replay", "replay"], b"")?;
     assert_eq!(rt; twice, 2);
     assert_eq!(rt; written.len(), 0);
     Ok(())
@@ -246,7 +306,7 @@ fn each_hook_is_answered(rt: HostRuntime) -> Result<(), Fail> {
         (of_a_root, "w1 load 3 udev firmware", DENIED_FIRMWARE_LOAD),
     ] {
         let input = with_rule(rt.alloc(), rule, hook)?;
-        let (status, written) = answered(rt.alloc(), &["replay"], input.as_bytes())?;
+        let (status, written) = answered(&rt, rt.alloc(), &["replay"], input.as_bytes())?;
         assert_eq!(rt; status, 0, "{hook}");
         let expected = with_answer(rt.alloc(), answer)?;
         assert!(rt; written.as_slice().ends_with(expected.as_bytes()), "{hook}");
@@ -267,7 +327,7 @@ fn each_kind_has_its_operation(rt: HostRuntime) -> Result<(), Fail> {
         let rule = format!(in rt.alloc(); "op={operation} action=ALLOW")?;
         let hook = format!(in rt.alloc(); "w1 read 3 udev {kind} /init")?;
         let input = with_rule(rt.alloc(), rule.as_str(), hook.as_str())?;
-        let (status, written) = answered(rt.alloc(), &["replay"], input.as_bytes())?;
+        let (status, written) = answered(&rt, rt.alloc(), &["replay"], input.as_bytes())?;
         assert_eq!(rt; status, 0, "{kind}");
         let expected = with_answer(rt.alloc(), READ)?;
         assert!(rt; written.as_slice().ends_with(expected.as_bytes()), "{kind}");
@@ -295,7 +355,7 @@ fn the_bit_of_value_4_is_evaluated(rt: HostRuntime) -> Result<(), Fail> {
         for hook in ["mmap 5 ld", "mprotect 5 ld 0"] {
             let hook = format!(in rt.alloc(); "w1 {hook} {prot} /init")?;
             let input = with_rule(rt.alloc(), BOOT_RULE, hook.as_str())?;
-            let (status, written) = answered(rt.alloc(), &["replay"], input.as_bytes())?;
+            let (status, written) = answered(&rt, rt.alloc(), &["replay"], input.as_bytes())?;
             assert_eq!(rt; status, 0, "{hook}");
             assert!(rt; written.as_slice().ends_with(expected.as_bytes()), "{hook}");
         }

@@ -1,16 +1,19 @@
 use super::tests::{answered, owned};
 use blk_device::{MemoryDevices, NamedBytes};
-use ipe_program::run;
+use ipe_program::{NoPace, run};
 use ipe_words::{Bytes, MemorySink, MemorySource};
 use std::alloc::{AllocError, Global};
+use std::sync::Wait;
 use std::test::Fail;
+use std::thread::Threads;
 
 /// The root of one block of zeros, without a salt.
 const ZERO_BLOCK: &str =
     "sha256:076a27c79e5ace2a3d47f9dd2e83e4ff6ea8872b3c2218f66c92b89b55f36560 levels=0 hash_blocks=0\n";
 
 /// The status and what was written of the device `z.img`, where the calls of these numbers fail.
-fn rooted(
+fn rooted<R: Threads + Wait + Sync>(
+    rt: &R,
     alloc: Global,
     block_size_and_salt: [&str; 2],
     image: Vec<u8>,
@@ -26,7 +29,16 @@ fn rooted(
     let mut devices = MemoryDevices::new(items, failing_calls.to_vec(alloc)?);
     let mut source = MemorySource::new(Vec::new(alloc), 1, Vec::new(alloc));
     let mut sink = MemorySink::new(alloc, 16, 4096, failing_writes.to_vec(alloc)?)?;
-    let status = run(alloc, &words, &mut source, &mut sink, &mut devices);
+    let status = run(
+        rt,
+        alloc,
+        &words,
+        &mut source,
+        &mut sink,
+        &mut devices,
+        &NoPace,
+        &mut None,
+    );
     Ok((status.number(), sink.written().to_vec(alloc)?))
 }
 
@@ -58,7 +70,7 @@ fn images_have_their_roots(rt: HostRuntime) -> Result<(), Fail> {
         ),
     ] {
         let image = vec![in rt.alloc(); byte; bytes]?;
-        let (status, written) = rooted(rt.alloc(), [block_size, salt], image, &[], &[])?;
+        let (status, written) = rooted(&rt, rt.alloc(), [block_size, salt], image, &[], &[])?;
         assert_eq!(rt; status, 0, "{answer}");
         assert_eq!(rt; written.as_slice(), answer.as_bytes(), "{answer}");
     }
@@ -67,7 +79,7 @@ fn images_have_their_roots(rt: HostRuntime) -> Result<(), Fail> {
 
 #[test]
 fn devices_are_refused(rt: HostRuntime) -> Result<(), Fail> {
-    let (status, written) = answered(rt.alloc(), &["root", "512", "-", "z.img"], b"")?;
+    let (status, written) = answered(&rt, rt.alloc(), &["root", "512", "-", "z.img"], b"")?;
     assert_eq!(rt; status, 3);
     assert_eq!(rt;
         written.as_slice(),
@@ -80,7 +92,7 @@ fn devices_are_refused(rt: HostRuntime) -> Result<(), Fail> {
         (4_097 * 512, "bad size"),
     ] {
         let image = vec![in rt.alloc(); 0; bytes]?;
-        let (status, written) = rooted(rt.alloc(), ["512", "-"], image, &[], &[])?;
+        let (status, written) = rooted(&rt, rt.alloc(), ["512", "-"], image, &[], &[])?;
         assert_eq!(rt; status, 3, "{bytes}");
         let answer = format!(in rt.alloc(); "refused: device z.img: {why}\n")?;
         assert_eq!(rt; written.as_slice(), answer.as_bytes(), "{bytes}");
@@ -93,12 +105,12 @@ fn faults_of_devices_and_sinks_are_told(rt: HostRuntime) -> Result<(), Fail> {
     // The first call asks for the size, the second reads.
     for call in [1, 2] {
         let image = vec![in rt.alloc(); 0; 512]?;
-        let (status, written) = rooted(rt.alloc(), ["512", "-"], image, &[call], &[])?;
+        let (status, written) = rooted(&rt, rt.alloc(), ["512", "-"], image, &[call], &[])?;
         assert_eq!(rt; status, 6);
         assert_eq!(rt; written.len(), 0);
     }
     let image = vec![in rt.alloc(); 0; 512]?;
-    let (status, written) = rooted(rt.alloc(), ["512", "-"], image, &[], &[2])?;
+    let (status, written) = rooted(&rt, rt.alloc(), ["512", "-"], image, &[], &[2])?;
     assert_eq!(rt; status, 5);
     assert_eq!(rt; written.as_slice(), b"sha256:076a27c79".as_slice());
     Ok(())
@@ -114,11 +126,16 @@ fn words_that_ask_for_no_root_are_refused(rt: HostRuntime) -> Result<(), Fail> {
         ("512", "-", ""),
         ("512", "-", "a b"),
     ] {
-        let (status, written) = answered(rt.alloc(), &["root", block_size, salt, device], b"")?;
+        let (status, written) = answered(
+            &rt,
+            rt.alloc(),
+            &["root", block_size, salt, device],
+            b"",
+        )?;
         assert_eq!(rt; status, 2, "{block_size} {salt} {device}");
         assert_eq!(rt; written.len(), 0);
     }
-    let (status, written) = answered(rt.alloc(), &["root", "512", "-"], b"")?;
+    let (status, written) = answered(&rt, rt.alloc(), &["root", "512", "-"], b"")?;
     assert_eq!(rt; status, 2);
     assert_eq!(rt; written.len(), 0);
     Ok(())

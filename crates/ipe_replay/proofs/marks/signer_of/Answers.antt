@@ -1,8 +1,7 @@
-use Rattle.std.proofs.Common.{◌≡◌, ap, ◌∙◌, map, List}
+use Rattle.std.proofs.Common.{◌≡◌, ap, ◌∙◌, map}
 use Rattle.std.proofs.lemmas.Result.{IfOk-weaker}
 use Rattle.ipe_lines.specs.Asked.{mark_of}
 use Rattle.ipe_requests.specs.Requests.{Script}
-use Rattle.ipe_requests.specs.declared.script.MarkLine.{MarkLine}
 use Rattle.ipe_replay.proofs.marks.signer_of.Goals as goal
 
 pub returns : goal.returns
