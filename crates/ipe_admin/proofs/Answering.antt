@@ -1,5 +1,5 @@
 -- What a plan comes to, carried out.
-use Rattle.std.proofs.Common.{◌≡◌, Bool, cond, [], ◌∷◌, Option, Some, None, Result, Ok, refl, sym, ap, subst, ◌∙◌, append-nil}
+use Rattle.std.proofs.Common.{◌≡◌, Bool, cond, [], ◌∷◌, Option, None, Result, Ok, refl, sym, ap, subst, ◌∙◌, append-nil}
 use Rattle.std.specs.List.{AllZip}
 use Rattle.std.specs.Option.{option_and_then, option_map_or}
 use Rattle.std.proofs.lemmas.Bool.{eq-eqb}
@@ -9,7 +9,6 @@ use Rattle.ipe_machine.specs.Policies.{Policies, Loaded}
 use Rattle.ipe_machine.specs.Change.{Change, entry_in, made}
 use Rattle.ipe_machine.specs.Answer.{Verdicts}
 use Rattle.ipe_registry.specs.declared.change.Plan.{Plan}
-use Rattle.ipe_registry.specs.declared.change.Plan.TheVariants.{Ready}
 use Rattle.ipe_registry.specs.Change.{IsPlan, answer_in, change_in}
 use Rattle.ipe_records.specs.Records.{records_with}
 use Rattle.ipe_gate_rule.specs.Owners.{is_switch}
@@ -19,7 +18,6 @@ use Rattle.ipe_weave.specs.Acts.{acts_of}
 use Rattle.ipe_weave.specs.Lines.{after_write, write_answer, write_records}
 use Rattle.ipe_admin.specs.declared.admin.Admin.{Admin}
 use Rattle.ipe_admin.specs.declared.outcome.Outcome.{Outcome}
-use Rattle.ipe_admin.specs.Changes.{IsMade}
 use Rattle.ipe_admin.specs.Outcomes.{BeginsAt, HasGoneOn, IsOutcome, begun, brought, gate_in, policies_in}
 
 still_gone_on : (policies : Policies) (gate : GateAdmin) → HasGoneOn None (begun policies policies) gate gate
@@ -57,17 +55,3 @@ plan_without verdicts command a plan outcome is none reply epoch records =
   where
     with_change : Option Change → Policies
     with_change change = option_map_or (made (policies_in a)) change (policies_in a)
-
--- a plan with a change that was made
-pub plan_made : (verdicts : Verdicts) (command : Command) (a b : Admin) (change : Change) (outcome : Outcome) → IsPlan verdicts (policies_in a) command (Ready change) → IsMade change a b → outcome.reply ≡ answer_in (Ready change) → outcome.epoch ≡ (policies_in b).epoch → outcome.records ≡ records_with (policies_in a) (Some change)
-    → IsOutcome verdicts (Ok command) a b outcome
-plan_made verdicts command a b change outcome is done reply epoch records = record {
-  same = done.same;
-  policies = done.policies ∙ sym is.2;
-  reply = reply ∙ sym is.0;
-  epoch = epoch;
-  records = records ∙ ap (records_with (policies_in a)) (sym is.1);
-  gone_on =
-      subst (λ (entry : Option Loaded). HasGoneOn entry (begun (policies_in a) (after_write verdicts (policies_in a) (Ok command))) (gate_in a) (gate_in b)) (sym (ap (option_and_then entry_in) is.1))
-      (subst (λ (ps : Policies). HasGoneOn (entry_in change) (begun (policies_in a) ps) (gate_in a) (gate_in b)) (done.policies ∙ sym is.2) done.gone_on);
-}

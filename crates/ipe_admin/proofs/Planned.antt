@@ -10,7 +10,7 @@ use Rattle.ipe_machine.specs.declared.answer.Refusal.{Refusal}
 use Rattle.ipe_machine.specs.declared.answer.Refusal.TheVariants.{NotPermitted}
 use Rattle.ipe_machine.specs.Policies.{Policies, is_active, is_named}
 use Rattle.ipe_machine.specs.Change.{Change, Loads, Updates, Activates, Deletes, SetsEnforce, SetsSuccess, change_of, done_by}
-use Rattle.ipe_machine.specs.Answer.{Verdicts, Case, act_cases, answer, answer_by, change_by, is_step, last_epoch, most_loaded}
+use Rattle.ipe_machine.specs.Answer.{Verdicts, Case, act_cases, answer, answer_by, is_step, last_epoch, most_loaded}
 use Rattle.ipe_registry.specs.declared.change.Plan.TheVariants.{Ready}
 use Rattle.ipe_registry.specs.Change.{IsPlannedOn}
 
@@ -71,8 +71,3 @@ planned_fits policies change planned =
     let command = planned.1 in
     let is = is_planned policies command.act (is_step (answer verdicts policies command)) change planned.2.1 in
     subst (Fits policies) is.1 (act_fits verdicts policies command.act (permitted verdicts policies command command.may is.0).1)
-
--- a command that changes something is of one who may administer
-pub changes_permitted : (verdicts : Verdicts) (policies : Policies) (command : Command) (change : Change) → change_by verdicts policies command ≡ Some change → command.may ≡ true
-changes_permitted verdicts policies command change changes =
-    (permitted verdicts policies command command.may (is_planned policies command.act (is_step (answer verdicts policies command)) change changes).0).0

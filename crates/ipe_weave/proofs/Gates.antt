@@ -28,10 +28,9 @@ use Rattle.ipe_gate_rule.specs.Legal.{Legal}
 use Rattle.ipe_weave.specs.Lines.{Access, ruled, hook_reply}
 use Rattle.ipe_weave.specs.Basis.{MayBe}
 use Rattle.ipe_weave.specs.Standing.{IsLike}
-use Rattle.ipe_weave.specs.Run.{machine_at}
-use Rattle.ipe_weave.specs.Gate.{image_at, image_of, ruling_by_image, record_by_image, claimed_by_image, Holds, gate_basis}
+use Rattle.ipe_weave.specs.Gate.{image_at, image_of, ruling_by_image, record_by_image, claimed_by_image, Holds, gate_basis, machine_at}
 use Rattle.ipe_weave.proofs.Founded.{IsBasis, Founded}
-use Rattle.ipe_weave.proofs.Bases.{entry_answers}
+use Rattle.ipe_weave.proofs.EntryAnswers.{entry_answers}
 
 -- regions with the same words
 listed_same : (f g : ℕ → ℕ) (at n : ℕ) → ((i : ℕ) → f i ≡ g i) → listed f at n ≡ listed g at n

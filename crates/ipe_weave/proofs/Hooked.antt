@@ -17,8 +17,7 @@ use Rattle.ipe_gate.specs.declared.pass.Pass.{Pass}
 use Rattle.ipe_hooks.specs.Rulings.{ruling_on}
 use Rattle.ipe_hooks.specs.Hooks.{IsDecision, IsHook}
 use Rattle.ipe_hooks.specs.Law.{machine_ruling}
-use Rattle.ipe_weave.specs.Run.{machine_at}
-use Rattle.ipe_weave.specs.Gate.{image_at, ruling_by_image}
+use Rattle.ipe_weave.specs.Gate.{image_at, ruling_by_image, machine_at}
 
 -- the machine's ruling at a claim, of what was decided there
 abbrev ruling_at_claim : List Event → Option Hit → CoreRuling

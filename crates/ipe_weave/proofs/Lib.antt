@@ -10,11 +10,8 @@ pub mod Whole
 pub mod Quiet
 pub mod Loops
 pub mod Rounds
-pub mod Bases
-pub mod FileRun
-pub mod InEpoch
+pub mod EntryAnswers
 pub mod Numbers
-pub mod Printing
 pub mod Gates
 pub mod Hooked
 pub mod Telling

@@ -1,6 +1,5 @@
 -- Lines whose numbers rise: so do each one's own.
 use Rattle.std.proofs.Common.{◌≡◌, ℕ, ◌==◌, inl, inr, List, [], ◌∷◌, map, Option, None, refl, sym, ap, subst, ◌∙◌, arith}
-use Rattle.std.specs.List.{AllByRecursion}
 use Rattle.std.proofs.lemmas.Bool.{cases_Bool}
 use Rattle.ipe_machine.specs.Answer.{Verdicts}
 use Rattle.ipe_machine.specs.Machine.{Machine}
@@ -34,10 +33,6 @@ own_rise a (x ∷ xs) rise = elim (cases_Bool (actor_of x == a)) [
   | inl is ↦ subst NumbersRise (sym (own-first actor_of no_key a x xs is)) (own_behind a x xs rise)
   | inr is ↦ subst NumbersRise (sym (own-skip actor_of no_key a x xs is)) (own_rise a xs (rise_rest x xs rise))
 ]
-
-pub own_rise_all : (a : ℕ) (script : List (List Line)) → AllByRecursion NumbersRise script → AllByRecursion (λ (lines : List Line). NumbersRise (own_lines a lines)) script
-own_rise_all a [] rise = tt
-own_rise_all a (lines ∷ script) rise = (own_rise a lines rise.0, own_rise_all a script rise.1)
 
 -- the lines of a run's entries are the lines
 pub run_lines : (verdicts : Verdicts) (machine : Machine) (lines : List Line) → map line_in (entries_of verdicts machine lines) ≡ lines

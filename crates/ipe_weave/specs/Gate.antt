@@ -1,5 +1,5 @@
 -- A history of the running gate: the image in the region of the active slot tells which policy is active.
-use Rattle.std.specs.Prelude.{◌≡◌, ◌≢◌, ℕ, ◌==◌, pos, negsuc, ◌&&◌, if◌then◌else◌, List, Option, Some, None}
+use Rattle.std.specs.Prelude.{◌≡◌, ◌≢◌, ℕ, ◌==◌, pos, negsuc, ◌&&◌, if◌then◌else◌, List, [], Option, Some, None}
 use Rattle.std.specs.Option.{option_map, option_and_then}
 use Rattle.ipe_policy.specs.declared.op.Op.{Op}
 use Rattle.ipe_policy.specs.declared.evaluation.Context.{Context}
@@ -10,19 +10,26 @@ use Rattle.ipe_image.specs.Reading.{image_in}
 use Rattle.ipe_image.specs.Decision.{deciding, decision_in}
 use Rattle.ipe_machine.specs.declared.event.CoreRuling.{CoreRuling}
 use Rattle.ipe_machine.specs.Policies as state
-use Rattle.ipe_machine.specs.Policies.{Policies, active_entry}
+use Rattle.ipe_machine.specs.Policies.{Policies, active_entry, first_policies}
 use Rattle.ipe_machine.specs.Answer.{Verdicts}
-use Rattle.ipe_machine.specs.Machine.{denies, is_due, next_place, ruling_unruled}
+use Rattle.ipe_machine.specs.Machine.{Machine, denies, is_due, next_place, ruling_unruled}
 use Rattle.ipe_records.specs.Records.{access_by}
 use Rattle.ipe_records.specs.Ruled.{parts_in}
 use Rattle.ipe_gate_rule.specs.declared.event.Event.{Event}
 use Rattle.ipe_gate_rule.specs.declared.event.Event.TheVariants.{Store, Switch, Claim, Return, Look}
-use Rattle.ipe_gate_rule.specs.History.{active_slot, enforce_of}
+use Rattle.ipe_gate_rule.specs.History.{active_slot, count_of, enforce_of, epoch_of, success_of}
 use Rattle.ipe_gate_rule.specs.Regions.{region}
 use Rattle.ipe_gate_rule.specs.Legal.{Allowed}
 use Rattle.ipe_weave.specs.Lines.{Access, LineReply, ruled}
 use Rattle.ipe_weave.specs.Basis.{Basis}
-use Rattle.ipe_weave.specs.Run.{machine_at}
+
+-- a machine with the epoch, the count and the switches of a history
+abbrev pub machine_at : List Event → Machine
+machine_at h = record {
+  policies = record first_policies { epoch = epoch_of h; enforce = enforce_of h; success = success_of h };
+  count = count_of h;
+  held = [];
+}
 
 -- the image in the region of a slot, where it begins with one; slot 0 has none
 abbrev pub image_at : ℕ → List Event → Option ImageParts

@@ -4,6 +4,5 @@ pub mod Basis
 pub mod Standing
 pub mod Phases
 pub mod Seats
-pub mod Run
 pub mod Gate
 pub mod Told

@@ -5,9 +5,8 @@ ghost use Rattle.ipe_weave.specs.Gate.{gate_basis};
 ghost use Rattle.ipe_transcript.specs.Entries as transcript;
 ghost use Rattle.ipe_transcript.specs.Filing.{LinesRise};
 ghost use Rattle.ipe_transcript.specs.Keys.{own_of};
-ghost use Rattle.ipe_weave.specs.Lines.{NumbersRise, entries_of, line_in, own_entries, own_lines, phases_entries};
-ghost use Rattle.ipe_weave.specs.Phases.{IsAlong, IsOrderOf, IsPrinted, PhasesRan};
-ghost use Rattle.ipe_weave.specs.Run.{IsNumbered};
+ghost use Rattle.ipe_weave.specs.Lines.{NumbersRise, entries_of, line_in, own_entries, own_lines};
+ghost use Rattle.ipe_weave.specs.Phases.{IsOrderOf, IsPrinted, PhasesRan};
 ghost use Rattle.ipe_weave.specs.Told.{IsFit, entry_of};
 ghost use Rattle.std.specs.List.{AllByRecursion, AllZip};
 ghost use Rattle.std.specs.Prelude.{◌≡◌, [], ℕ, map};
@@ -15,28 +14,9 @@ ghost use Rattle.std.specs.Prelude.{◌≡◌, [], ℕ, map};
 use ipe_image::images_are_read_as_themselves;
 use ipe_machine::commands_stay_or_begin;
 
-/// Where the machine replies to the lines of each phase in the order of the file, the entries of each phase have an
-/// order in which they may be printed: each one's own in that one's order, and all in place. This call and the others
-/// here do nothing: their contracts are laws.
-pub fn file_order_can_be_printed()
-    ensures { (verdicts : _) (workers : _) (script : _) → IsNumbered workers script →
-        (printed : _) × AllZip IsPrinted (phases_entries verdicts (first_machine workers) script) printed }
-{
-    commands_stay_or_begin();
-}
-
-/// In whatever such order they are printed, it is a weave of the phases and in place, and the machine replies along it
-/// just what is printed: that it replied in another order changed nothing.
-pub fn file_order_is_printed_along_an_order()
-    ensures { (verdicts : _) (workers : _) (script : _) (printed : _) → IsNumbered workers script →
-        AllZip IsPrinted (phases_entries verdicts (first_machine workers) script) printed →
-        IsAlong verdicts (first_machine workers) script printed }
-{
-    commands_stay_or_begin();
-}
-
 /// Where the phases ran on a gate, and each phase's entries are printed in such an order, the gate's one history stands
-/// for the order in which they are printed, and the machine replies along it just what is printed.
+/// for the order in which they are printed, and the machine replies along it just what is printed. This call and the others
+/// here do nothing: their contracts are laws.
 pub fn gate_history_stands_for_the_printed_order()
     ensures { (verdicts : _) (workers : _) (whole : _) (script : _) (phases : _) (printed : _) → Legal whole →
         PhasesRan (gate_basis verdicts) workers first_policies [] whole script phases →

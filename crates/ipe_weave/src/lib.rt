@@ -3,16 +3,14 @@
 //!
 //! What a line asks and what the machine replies is told in specs/Lines.antt. A history of atomic steps stands for an
 //! order (specs/Standing.antt) where its switches are those of the commands that raise the epoch and its claims those
-//! of the hooks that are evaluated. What a history shows of the active policy is told by a basis (specs/Basis.antt):
-//! that of a run on one thread stands in specs/Run.antt, that of the
-//! running gate in specs/Gate.antt. The laws hold over any basis that meets proofs/Founded.antt.
+//! of the hooks that are evaluated. What a history shows of the active policy is told by a basis (specs/Basis.antt): that of
+//! the running gate stands in specs/Gate.antt. The laws hold over any basis that meets proofs/Founded.antt.
 #![tactic(auto)]
 
 mod laws;
 mod seats;
 
 pub use laws::{
-    file_order_can_be_printed, file_order_is_printed_along_an_order,
     gate_history_stands_for_the_printed_order, gate_run_can_be_printed, told_entries_are_printed,
 };
 pub use seats::{

@@ -1,5 +1,5 @@
 -- How runs of a worker's lines add up.
-use Rattle.std.proofs.Common.{◌≡◌, ◌≢◌, ℕ, ◌+◌, ◌<◌, ◌^◌, ◌==◌, Bool, true, false, cond, List, [], ◌∷◌, ◌++◌, length, map, take, drop, get_or, Option, Result, Ok, Err, is_ok, refl, sym, ap, subst, ◌∙◌, append_assoc, append-nil, length-append, arith, ne_eqb, eq-eqb, true≢false}
+use Rattle.std.proofs.Common.{◌≡◌, ◌≢◌, ℕ, ◌+◌, ◌<◌, ◌==◌, Bool, true, false, cond, List, [], ◌∷◌, ◌++◌, length, map, take, drop, get_or, Option, Result, Ok, Err, is_ok, refl, sym, ap, subst, ◌∙◌, append_assoc, append-nil, length-append, arith, ne_eqb, eq-eqb, true≢false}
 use Rattle.std.specs.List.{AllByRecursion}
 use Rattle.std.specs.Result.{IsErr}
 use Rattle.std.proofs.lemmas.List.{length-map, map-append, take-append-drop, take_more}
@@ -8,7 +8,7 @@ use Rattle.blk_device.specs.Contents.{Contents}
 use Rattle.ipe_policy.specs.declared.request.Request.{Request}
 use Rattle.ipe_policy.specs.declared.request.Subject.{Subject}
 use Rattle.ipe_image.specs.declared.hit.Ruling.{Ruling}
-use Rattle.ipe_gate.specs.Seats.{calls_made, slot_held}
+use Rattle.ipe_gate.specs.Seats.{slot_held}
 use Rattle.ipe_hooks.specs.Law.{machine_ruling}
 use Rattle.ipe_transcript.specs.declared.transcript.Content.{Content}
 use Rattle.ipe_transcript.specs.declared.transcript.Entry.{Entry}
@@ -213,15 +213,6 @@ run_hook objects images phase done line number whose request subject path w v ru
     m.2 ∙ ap (λ (entry : Entry). entries_in w ++ entry ∷ [])
     (ap (λ (a : Option (List ℕ)). hook_told phase number whose ruling a m.1) m.3
     ∙ ap (λ (c : Option Content). hook_told phase number whose ruling (recorded ran.before access) c) m.4))
-
--- a hook of the worker is one line more
-pub own_few : (objects : Ready) (images : Contents) (line : PhaseLine) (number whose worker : ℕ) (request : Request) (subject : Subject) (path : Option (List ℕ)) (w : Worker)
-    → line ≡ asked.Hook number whose request subject path → whose ≡ worker → IsReady objects images worker (line ∷ []) w → calls_made (pass_of w) < 2 ^ 35
-own_few objects images line number whose worker request subject path w is own ready =
-    let one : length (lines_for objects images worker (line ∷ [])) ≡ 1 =
-    ap length (own_one objects images worker line (eq-eqb (actor_of (line_at objects images line)) worker (ap (λ (l : PhaseLine). actor_of (line_at objects images l)) is ∙ own))) in
-    let few = ready.few in
-    omega (arith, one, few)
 
 -- a hook of another worker
 pub run_other_hook : (objects : Ready) (images : Contents) (phase : ℕ) (done : Bool) (line : PhaseLine) (number whose : ℕ) (request : Request) (subject : Subject) (path : Option (List ℕ)) (w : Worker) → slot_held (pass_of w) ≡ 0

@@ -21,10 +21,6 @@ use Rattle.ipe_lines.specs.Files.{files_of}
 use Rattle.ipe_lines.specs.Told.{content_after, content_at}
 use Rattle.ipe_weave.specs.Lines.{Access}
 
-pub cond_same : {A : Type 0} (b : Bool) (x : A) → cond b x x ≡ x
-cond_same true x = refl
-cond_same false x = refl
-
 find_holds : {X : Type 0} (test : X → Bool) (xs : List X) (x : X) → find test xs ≡ Some x → test x ≡ true
 find_holds test [] x e = absurd (cc)
 find_holds test (y ∷ ys) x e = chosen (test y) refl (find_holds test ys x) e

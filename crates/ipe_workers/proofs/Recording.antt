@@ -30,7 +30,7 @@ use Rattle.ipe_hooks.specs.Rulings.{found_in}
 use Rattle.ipe_records.specs.Records.{access_by}
 use Rattle.ipe_weave.specs.Gate.{image_at, record_by_image}
 use Rattle.ipe_weave.specs.Lines.{Access}
-use Rattle.ipe_weave.specs.Run.{machine_at}
+use Rattle.ipe_weave.specs.Gate.{machine_at}
 use Rattle.ipe_workers.specs.Ruled.{IsRuled, IsRuledAt, IsRuledFor, recorded}
 
 -- what was found is what an image decides for the operation
@@ -75,9 +75,6 @@ text_is : (policies : Policies) (request : Request) (subject : Subject) (object 
     → option_map (access_by policies request subject object op) statement ≡ decided_text op (hook_of request) policies.enforce subject object statement
 text_is policies request subject object op None = refl
 text_is policies request subject object op (Some statement) = refl
-
-or_due : (due : Bool) (b : Bool) → due ≡ (true && b) → due ≡ true → b ≡ true
-or_due due b same is = sym same ∙ is
 
 -- the statement that decided
 statement_is : DecideAlike → DecideByOneStatement → (items : List Statement) (serial : ℕ) (parts : ImageParts) (op : Op) (context : Context) (found : Found)
@@ -137,36 +134,3 @@ pub record_made : AreOfPolicies → DecideAlike → DecideByOneStatement → (h 
     → Some made ≡ recorded h access
 record_made policies alike one h access op ruling hit made is asked found due text =
     sym (made_for policies alike one h (evaluated_op access.request) op access ruling hit made is asked found due text)
-
--- where none is due there is none
-none_by_slot : (slot : ℕ) (h : List Event) (access : Access) (op : Op) (found : Option Hit) → IsDecision slot h op access.context found → (is_some found && (denies (found_in found) || success_of h)) ≡ false
-    → record_by_image h (image_at slot h) access (Some op) ≡ None
-none_by_slot zero h access op found none due = refl
-none_by_slot (suc k) h access op found d due =
-    let off : due_at h (Some d.decided.found) ≡ false = ap (λ (o : Option Hit). is_some o && (denies (found_in o) || success_of h)) (sym d.hit_is) ∙ due in
-    ap (λ (p : Option ImageParts). record_by_image h p access (Some op)) (image_of_slot k h ∙ d.image)
-    ∙ ap (record_found h d.parts access op) d.answer.decision
-    ∙ ap (λ (b : Bool). cond b (option_map (access_by (machine_at h).policies access.request access.subject access.object op) (deciding d.parts op d.decided.found)) None) off
-
-none_for : (h : List Event) (asked : Option Op) (access : Access) (ruling : Ruling) → IsRuledFor h asked access.context ruling → ruling.record_due ≡ false → record_by_image h (image_at (active_slot h) h) access asked ≡ None
-none_for h None access ruling is due = refl
-none_for h (Some op) access ruling is due =
-    none_by_slot (active_slot h) h access op ruling.hit is.decision (sym (ap (λ (r : Ruling). r.record_due) is.ruling_is) ∙ due)
-
-pub none_due : (h : List Event) (access : Access) (ruling : Ruling) → IsRuled h access ruling → ruling.record_due ≡ false → None ≡ recorded h access
-none_due h access ruling is due = sym (none_for h (evaluated_op access.request) access ruling is due)
-
--- a request that isn't evaluated has no record
-pub none_asked : (h : List Event) (access : Access) → evaluated_op access.request ≡ None → None ≡ recorded h access
-none_asked h access none = sym (ap (record_by_image h (image_at (active_slot h) h) access) none)
-
--- where nothing was found none is due
-due_none : (h : List Event) (asked : Option Op) (context : Context) (ruling : Ruling) → IsRuledFor h asked context ruling → ruling.hit ≡ None → ruling.record_due ≡ false
-due_none h None context ruling is none = ap (λ (r : Ruling). r.record_due) is
-due_none h (Some op) context ruling is none =
-    ap (λ (r : Ruling). r.record_due) is.ruling_is
-    ∙ ap (λ (o : Option Hit). is_some o && (denies (found_in o) || success_of h)) none
-
-pub none_found : (h : List Event) (access : Access) (ruling : Ruling) → IsRuled h access ruling → ruling.hit ≡ None → None ≡ recorded h access
-none_found h access ruling is none =
-    none_due h access ruling is (due_none h (evaluated_op access.request) access.context ruling is none)

@@ -3,7 +3,7 @@ use Rattle.std.proofs.Common.{◌≡◌, ℕ, zero, suc, ◌+◌, ◌<◌, ◌�
 use mathlib.Core.Logic.{dite}
 use native.Mathlib.Decide.{ℕ_discrete}
 use Rattle.ipe_gate_rule.specs.History.{GoesOnFrom}
-use Rattle.ipe_gate_rule.proofs.Frees.{later_same, later_chain}
+use Rattle.ipe_gate_rule.proofs.Frees.{later_chain}
 use Rattle.ipe_gate.specs.declared.pass.Pass.{Pass}
 use Rattle.ipe_gate.specs.Meeting.{IsMeeting}
 use Rattle.ipe_gate.specs.Seats.{admin_seen, seen}
@@ -12,9 +12,6 @@ use Rattle.ipe_admin.specs.Outcomes.{gate_in, policies_in}
 use Rattle.ipe_workers.specs.declared.worker.Worker.{Worker}
 use Rattle.ipe_workers.specs.Workers.{pass_of}
 use Rattle.ipe_workers.specs.Rounds.{AdminHeard, WorkerHeard}
-
-pub heard_none : (a : Admin) → AdminHeard a a
-heard_none a = record { same = record { gate = refl; passes = refl }; policies = refl; later = later_same (admin_seen (gate_in a)); owned = refl }
 
 heard_more : (o a b : Admin) (p q : Pass) → AdminHeard o a → IsMeeting p q (gate_in a) (gate_in b) → policies_in b ≡ policies_in a → AdminHeard o b
 heard_more o a b p q h m policies = record {

@@ -1,20 +1,23 @@
--- The basis of a run on one thread has its laws.
+-- A claim by the active entry is answered as the machine answers.
 use Rattle.std.proofs.Common.{◌≡◌, ℕ, List, Option, Some, None, refl, ap, ◌∙◌}
 use Rattle.ipe_policy.specs.declared.evaluation.Context.{Context}
 use Rattle.ipe_policy.specs.declared.op.Op.{Op}
 use Rattle.ipe_machine.specs.declared.event.CoreRuling.{CoreRuling}
 use Rattle.ipe_machine.specs.Policies.{Loaded, active_entry}
-use Rattle.ipe_machine.specs.Answer.{Verdicts}
 use Rattle.ipe_machine.specs.Machine.{Machine, ruling_at}
 use Rattle.ipe_records.specs.Records.{access_with}
 use Rattle.ipe_policy.specs.Request.{evaluated_op}
-use Rattle.ipe_machine.specs.Epochs.{CommandsStayOrBegin}
 use Rattle.ipe_gate_rule.specs.declared.event.Event.{Event}
-use Rattle.ipe_gate_rule.specs.History.{epoch_of}
-use Rattle.ipe_weave.specs.Lines.{Access, hook_reply, ruled}
+use Rattle.ipe_weave.specs.Lines.{Access, LineReply, hook_reply, ruled}
 use Rattle.ipe_weave.specs.Standing.{IsLike}
-use Rattle.ipe_weave.specs.Run.{machine_at, claimed_by, run_basis}
-use Rattle.ipe_weave.proofs.Founded.{IsBasis, Founded}
+use Rattle.ipe_weave.specs.Gate.{machine_at}
+
+-- what a claim after a history is answered by this entry
+abbrev pub claimed_by : List Event → Option Loaded → Op → Access → LineReply
+claimed_by h entry op access =
+    ruled (ruling_at (machine_at h) entry op access.context)
+    (access_with (machine_at h).policies access.request access.subject access.object access.context
+    (evaluated_op access.request) entry)
 
 -- the ruling and the record of a claim depend on no more of a machine than a history tells
 ruled_alike : (machine : Machine) (h : List Event) (entry : Option Loaded) (op : Op) (context : Context) → IsLike machine h → ruling_at (machine_at h) entry op context ≡ ruling_at machine entry op context
@@ -32,23 +35,3 @@ pub entry_answers : (machine : Machine) (h : List Event) (op : Op) (access : Acc
 entry_answers machine h op access like =
     ap (λ (r : CoreRuling). ruled r (access_with (machine_at h).policies access.request access.subject access.object access.context (evaluated_op access.request) (active_entry machine.policies))) (ruled_alike machine h (active_entry machine.policies) op access.context like)
     ∙ ap (λ (r : Option (List ℕ)). ruled (ruling_at machine (active_entry machine.policies) op access.context) r) (recorded_alike machine h access (evaluated_op access.request) (active_entry machine.policies) like)
-
-run_answers : (in_epoch : ℕ → Option Loaded) (machine : Machine) (h : List Event) (op : Op) (access : Access) → IsLike machine h → in_epoch (epoch_of h) ≡ active_entry machine.policies
-    → claimed_by h (in_epoch (epoch_of h)) op access ≡ hook_reply machine (Some op) access
-run_answers in_epoch machine h op access like shows =
-    ap (λ (entry : Option Loaded). claimed_by h entry op access) shows ∙ entry_answers machine h op access like
-
-pub run_laws : (verdicts : Verdicts) (in_epoch : ℕ → Option Loaded) → in_epoch 0 ≡ None → IsBasis (run_basis verdicts in_epoch)
-run_laws verdicts in_epoch none = record {
-  at_start = none;
-  at_claim = λ p h entry shows. shows;
-  at_return = λ p h entry shows. shows;
-  at_look = λ s h entry shows. shows;
-  at_store = λ s i w h entry allowed shows. absurd allowed;
-  at_switch = λ s e u h policies begins. begins;
-  answers = run_answers in_epoch;
-}
-
--- the same with the law of the machine's commands
-abbrev pub founded_run : CommandsStayOrBegin → Verdicts → (in_epoch : ℕ → Option Loaded) → in_epoch 0 ≡ None → Founded
-founded_run commands verdicts in_epoch none = record { basis = run_basis verdicts in_epoch; laws = run_laws verdicts in_epoch none; commands = commands }
