@@ -37,6 +37,8 @@ mod access_tests;
 #[cfg(test)]
 mod command_tests;
 #[cfg(test)]
+mod damage_tests;
+#[cfg(test)]
 mod device_tests;
 #[cfg(test)]
 mod limit_tests;
