@@ -1,5 +1,5 @@
 -- What is written for a request file.
-use Rattle.std.specs.Prelude.{◌≡◌, ℕ, codes, List, Option, Some, None, IfSome, ◌⊎◌}
+use Rattle.std.specs.Prelude.{◌≡◌, ℕ, codes, List, Ok, Option, Some, None, IfSome, IsSomeAnd, ◌⊎◌}
 use Rattle.blk_device.specs.Contents.{Contents}
 use Rattle.ipe_gate.specs.declared.meeting.Closed.{Closed}
 use Rattle.ipe_gate.specs.Meeting.{history}
@@ -7,7 +7,7 @@ use Rattle.ipe_requests.specs.declared.line.ScriptKind.{ScriptKind}
 use Rattle.ipe_requests.specs.declared.line.ScriptKind.TheVariants as kind
 use Rattle.ipe_requests.specs.Law.{AreRequests, HaveFirstBad}
 use Rattle.ipe_requests.specs.Reading.{FirstBad}
-use Rattle.ipe_requests.specs.Requests.{Script}
+use Rattle.ipe_requests.specs.Requests.{Script, requests_of}
 use Rattle.ipe_objects.specs.declared.images.ImagesError.{ImagesError}
 use Rattle.ipe_objects.specs.declared.images.ImagesError.TheVariants as refused
 use Rattle.ipe_objects.specs.Devices.{AreImages, named_devices}
@@ -38,6 +38,12 @@ pub record IsReplay (input : List ℕ) (held : Option Contents) (closed : Option
   pub script : Script
   pub asks : AreRequests input script
   pub transcript : IsTranscript script held closed text
+
+-- the input is the requests of something, and no device of theirs is refused
+pub record IsAccepted (input : List ℕ) (held : Option Contents) : Type 0 where
+  pub script : Script
+  pub read : requests_of input ≡ Ok script
+  pub loaded : IsSomeAnd held (λ told. first_refusal script told ≡ None)
 
 -- what is wrong with a line, as it is spelled
 abbrev pub kind_name : ScriptKind → List ℕ

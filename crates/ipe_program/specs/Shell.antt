@@ -3,7 +3,7 @@ use Rattle.std.specs.Prelude.{⊤, ◌≡◌, ◌≢◌, ◌<◌, ℕ, false, Li
 use Rattle.blk_device.specs.Contents.{Contents}
 use Rattle.ipe_gate.specs.declared.meeting.Closed.{Closed}
 use Rattle.ipe_program.specs.declared.asked.Asked.{Asked}
-use Rattle.ipe_program.specs.Table.{row, HasText, IsAnswer, WhereTold}
+use Rattle.ipe_program.specs.Table.{AreAccepted, row, HasText, IsAnswer, WhereTold}
 use Rattle.ipe_words.specs.Count.{Rose}
 use Rattle.ipe_words.specs.Sink.{Appends, AppendsPrefix}
 use Rattle.ipe_words.specs.declared.status.Status.{Status}
@@ -65,6 +65,10 @@ pub record Serves {S K D : Type 0} (asked : Asked) (status : Status) (source : H
   -- without an answer nothing is written
   pub unwritten : (status ≡ ends.ReadFault) ⊎ (status ≡ ends.DeviceFault) ⊎ (status ≡ ends.NoMemory) →
       sink.after ≡ sink.before
+  -- where all is accepted and no fault was counted, it is done, unless memory ran out
+  pub complete : (Failed source → ⊥) → (Failed sink → ⊥) → (Failed devices → ⊥) →
+      WhereTold asked (source.tells source.before) (λ input.
+      AreAccepted asked input (devices.tells devices.before) → (status ≡ ends.Done) ⊎ (status ≡ ends.NoMemory))
   -- only what the answer is made of is read or asked
   pub source_stays : (row asked).most_input ≡ None → source.after ≡ source.before
   pub devices_stay : (row asked).asks_devices ≡ false → devices.after ≡ devices.before

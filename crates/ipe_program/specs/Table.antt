@@ -1,27 +1,31 @@
 -- What is read, which devices are asked and what is written, for all that can be asked.
-use Rattle.std.specs.Prelude.{◌≡◌, ℕ, ◌<◌, ◌≤◌, Bool, true, false, codes, List, [], length, Option, Some, None, IfSome, ◌⊎◌}
+use Rattle.std.specs.Prelude.{⊤, ◌≡◌, ℕ, ◌<◌, ◌≤◌, Bool, true, false, codes, List, [], length, Ok, Option, Some, None, IfSome, IsSomeAnd, ◌⊎◌}
 use Rattle.blk_device.specs.Contents.{Contents}
 use Rattle.ipe_gate.specs.declared.meeting.Closed.{Closed}
 use Rattle.ipe_program.specs.declared.asked.Task.TheVariants.{Lint, Measure, Tree}
 use Rattle.ipe_program.specs.declared.asked.Asked.{Asked}
 use Rattle.ipe_program.specs.declared.asked.Asked.TheVariants.{Replay, Alone}
+use Rattle.ipe_parse.specs.Reading.{reading}
+use Rattle.ipe_policy.specs.Policy.{PolicyParts}
 use Rattle.ipe_program.specs.Lint.{IsLinted, IsFaulty}
 use Rattle.ipe_program.specs.Measure.{measure_text}
-use Rattle.ipe_program.specs.Replay.{IsReplay, IsReplayRefusal}
-use Rattle.ipe_program.specs.Tree.{IsOfTree, IsTreeRefusal}
+use Rattle.ipe_program.specs.Replay.{IsAccepted, IsReplay, IsReplayRefusal}
+use Rattle.ipe_program.specs.Tree.{HasImage, IsOfTree, IsTreeRefusal}
 use Rattle.ipe_words.specs.declared.status.Status.{Status}
 use Rattle.ipe_words.specs.declared.status.Status.TheVariants as ends
 use Rattle.line_words.specs.Lines.{line_text}
 
 -- what is answered to what is asked: the most bytes of the input, if it is read; whether devices are asked; whether a gate
 -- runs; and what text it is where it is done, and where it is refused, by the bytes that are read and what the devices
--- hold, where that is told. Where a gate ran it is handed out, closed, with the text of what is done
+-- hold, where that is told. Where a gate ran it is handed out, closed, with the text of what is done. Last, which input and
+-- devices are accepted: nothing refuses them
 pub record Row : Type 1 where
   pub most_input : Option ℕ
   pub asks_devices : Bool
   pub runs_gate : Bool
   pub IsDone : List ℕ → Option Contents → Option Closed → List ℕ → Type 0
   pub IsRefused : List ℕ → Option Contents → List ℕ → Type 0
+  pub Accepts : List ℕ → Option Contents → Type 0
 
 -- the table of all that can be asked
 abbrev pub row : Asked → Row
@@ -31,6 +35,7 @@ row Replay = record {
   runs_gate = true;
   IsDone = λ input held closed text. IsReplay input held closed text;
   IsRefused = λ input held text. IsReplayRefusal input held text;
+  Accepts = λ input held. IsAccepted input held;
 }
 row (Alone Lint) = record {
   most_input = Some 1048576;
@@ -38,6 +43,7 @@ row (Alone Lint) = record {
   runs_gate = false;
   IsDone = λ input held closed text. IsLinted input text;
   IsRefused = λ input held text. IsFaulty input text;
+  Accepts = λ input held. (policy : PolicyParts) × (reading input ≡ Ok policy);
 }
 row (Alone (Measure tree)) = record {
   most_input = Some 16777216;
@@ -45,6 +51,7 @@ row (Alone (Measure tree)) = record {
   runs_gate = false;
   IsDone = λ input held closed text. text ≡ measure_text input tree;
   IsRefused = λ input held text. ⊥;
+  Accepts = λ input held. ⊤;
 }
 row (Alone (Tree part tree)) = record {
   most_input = None;
@@ -52,11 +59,16 @@ row (Alone (Tree part tree)) = record {
   runs_gate = false;
   IsDone = λ input held closed text. IfSome held (λ items. IsOfTree part items tree text);
   IsRefused = λ input held text. IfSome held (λ items. IsTreeRefusal items tree text);
+  Accepts = λ input held. IsSomeAnd held (λ items. (bytes : List ℕ) × HasImage items tree bytes);
 }
 
 -- the input is within the limit, where there is one
 abbrev pub Fits : Option ℕ → List ℕ → Type 0
 Fits most input = IfSome most (λ most. length input ≤ most)
+
+-- what is read and what the devices hold are accepted: the input is within the limit, and nothing refuses them
+abbrev pub AreAccepted : Asked → List ℕ → Option Contents → Type 0
+AreAccepted asked input held = Fits (row asked).most_input input × (row asked).Accepts input held
 
 -- the input is above the limit, and the text says so
 abbrev pub IsTooLong : Option ℕ → List ℕ → List ℕ → Type 0

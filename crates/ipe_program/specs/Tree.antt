@@ -1,9 +1,9 @@
 -- What is written of the hash tree over a device's image.
-use Rattle.std.specs.Prelude.{◌≡◌, ℕ, ◌*◌, ◌/◌, ◌%◌, ◌<◌, ◌≤◌, codes, List, ◌++◌, length, Some, None, ◌⊎◌}
+use Rattle.std.specs.Prelude.{◌≡◌, ℕ, ◌/◌, ◌<◌, ◌≤◌, codes, List, ◌++◌, length, Some, None}
 use Rattle.std.specs.Fmt.{decimal}
 use Rattle.hex.specs.Hex.{encode_lower}
 use Rattle.blk_device.specs.Contents.{Contents, content}
-use Rattle.dmv_tree.specs.Blocks.{AreBlocks}
+use Rattle.dmv_tree.specs.Blocks.{AreBlocks, AreNoBlocks}
 use Rattle.hash_tree.specs.Chunks.{chunks}
 use Rattle.hash_tree.specs.Hash.{sha256_hash}
 use Rattle.hash_tree.specs.Shape.{height, tree_blocks}
@@ -62,10 +62,6 @@ pub record IsTooLarge (items : Contents) (tree : ImageTree) : Type 0 where
   pub bytes : List ℕ
   pub is : content tree.device items ≡ Some bytes
   pub large : most_device < length bytes
-
--- so many bytes are none, or no whole number of blocks of a size, or more than 4,096 of them
-abbrev pub AreNoBlocks : ℕ → ℕ → Type 0
-AreNoBlocks bytes size = (bytes ≡ 0) ⊎ ((0 < bytes % size) ⊎ (4096 * size < bytes))
 
 -- the device has no more bytes than may be, and they are no blocks
 pub record IsBadSize (items : Contents) (tree : ImageTree) : Type 0 where

@@ -1,8 +1,8 @@
 ghost use Rattle.std.specs.Prelude.{◌≡◌, ◌≢◌, ◌<◌, ◌≤◌, length, IfErr, IfNone, IfOk, IfSome, IsErrOf, IsTrue, None, Some, string_bytes};
 ghost use Rattle.ipe_words.specs.Count.{Rose};
-ghost use Rattle.dmv_tree.specs.Blocks.{AreBlocks, is_block_size};
+ghost use Rattle.dmv_tree.specs.Blocks.{AreBlocks, AreNoBlocks, is_block_size};
 ghost use Rattle.ipe_program.specs.Asked.{HasTaskRule};
-ghost use Rattle.ipe_program.specs.Tree.{AreNoBlocks, HasImage, IsOfTree, IsRefusedFor, IsTreeRefusal};
+ghost use Rattle.ipe_program.specs.Tree.{HasImage, IsOfTree, IsRefusedFor, IsTreeRefusal};
 ghost use Rattle.ipe_program.specs.Tree.{refusal_words, root_line, shape_text, tree_text};
 ghost use Rattle.ipe_program.specs.Table.{ByStatus, HasText};
 ghost use Rattle.ipe_program.specs.declared.asked.Task.{Task};
@@ -11,14 +11,11 @@ use crate::answers::{Answer, Unanswered};
 use crate::refusals::device_line;
 use crate::{ImageTree, TreePart};
 use blk_device::{DevError, Devices, ReadDeviceError, read_device};
-use dmv_tree::{Shape, build, layout};
+use dmv_tree::{Shape, are_blocks, build, layout};
 use std::alloc::{AllocError, Global};
 
 /// The most bytes of a device.
 const MOST_DEVICE: u64 = 16_777_216;
-
-/// The most blocks of a device.
-const MOST_BLOCKS: u64 = 4_096;
 
 /// Why a device is refused.
 #[derive(Clone, Copy, Debug, PartialEq, Eq)]
@@ -100,14 +97,13 @@ fn refused_size(size: u64, block_size: u32) -> Option<Refusal>
     ensures large { result ≡ Some Refusal.TooLarge → 16777216 < size }
     ensures bad { result ≡ Some Refusal.BadSize → (size ≤ 16777216) × AreNoBlocks size block_size }
 {
-    let block_size = u64::from(block_size);
     if size > MOST_DEVICE {
-        return Some(Refusal::TooLarge);
+        Some(Refusal::TooLarge)
+    } else if are_blocks(size, block_size) {
+        None
+    } else {
+        Some(Refusal::BadSize)
     }
-    if size == 0 || size % block_size != 0 || size / block_size > MOST_BLOCKS {
-        return Some(Refusal::BadSize);
-    }
-    None
 }
 
 // What is told of the tree over an image.
