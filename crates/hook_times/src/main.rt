@@ -1,7 +1,8 @@
 //! `hook_times` does the same work so many times, to be measured from outside: `hook RULES THREADS TIMES` asks the gate
-//! from that many threads at once, on a policy of that many rules of which none matches; `decide RULES 1 TIMES` decides by
-//! the same policy without a gate; `add 0 1 TIMES` adds to a word that no other thread uses. It prints how many requests
-//! were denied, or the sum. `figures RULES THREADS HOOK DECIDE ADDITION` prints what was measured, with its ratios.
+//! from that many threads at once, on a policy of that many rules of which none matches; `other RULES THREADS TIMES` asks
+//! it for an operation that none of the rules is of; `decide RULES 1 TIMES` decides by the same policy without a gate;
+//! `add 0 1 TIMES` adds to a word that no other thread uses. It prints how many requests were denied, or the sum.
+//! `figures RULES THREADS HOOK DECIDE ADDITION` prints what was measured, with its ratios.
 #![tactic(auto)]
 
 mod figures;
@@ -9,6 +10,7 @@ mod work;
 
 use anyhow::{Context, Result};
 use figures::{Times, figures};
+use ipe_policy::{Kind, Request};
 use std::{env, thread};
 use work::{additions, decisions, hooks, open_gate, policy_of};
 
@@ -32,9 +34,14 @@ fn main(rt: HostRuntime) -> Result<()> {
     }
     let policy = policy_of(rt.alloc(), rules)?;
     let total = match mode.as_str() {
-        "hook" => {
+        "hook" | "other" => {
+            let request = if mode.as_str() == "hook" {
+                Request::ExecCheck
+            } else {
+                Request::KernelRead(Kind::Module)
+            };
             let passes = open_gate(rt.alloc(), &policy, threads)?;
-            let denied = thread::map_vec(&rt, passes, &|pass| hooks(pass, times))?;
+            let denied = thread::map_vec(&rt, passes, &|pass| hooks(pass, &request, times))?;
             denied.iter().fold(0u64, |sum, n| sum.saturating_add(*n))
         }
         "decide" => decisions(&policy, times),

@@ -47,15 +47,15 @@ pub fn open_gate(alloc: Global, policy: &Policy, passes: u32) -> Result<Vec<Pass
     Ok(passes)
 }
 
-/// How many of so many hooks are denied.
-pub fn hooks(mut pass: Pass, times: u32) -> u64 {
+/// How many of so many hooks on this request are denied.
+pub fn hooks(mut pass: Pass, request: &Request, times: u32) -> u64 {
     let context = CONTEXT;
     let mut denied = 0u64;
     if pass.holds().is_some() || pass.calls() > 0 {
         return denied;
     }
     for _ in 0..times {
-        let ruling = hook(&mut pass, &Request::ExecCheck, &context);
+        let ruling = hook(&mut pass, request, &context);
         if ruling.code != 0 {
             denied = denied.saturating_add(1);
         }

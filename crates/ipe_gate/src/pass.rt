@@ -115,6 +115,8 @@ impl WordReader for Pass {
 
     ghost kept = { who_reads };
 
+    ghost reads = { λ _. 0 };
+
     fn word(&mut self, i: u32) -> u64 {
         Pass::word(self, i)
     }

@@ -25,7 +25,7 @@ are_next-is (word ∷ words) (suc count) bytes same =
     ap (λ (b : Bool). nat_eq word (word_of (take 8 bytes)) && b) (are_next-is words count (drop 8 bytes) (omega arith))
 
 -- two numbers that are not one are told apart
-differ : (a b : ℕ) → (a ≡ b → ⊥) → nat_eq a b ≡ false
+pub differ : (a b : ℕ) → (a ≡ b → ⊥) → nat_eq a b ≡ false
 differ a b h = at (nat_eq a b) refl
   where
     at : (r : Bool) → nat_eq a b ≡ r → nat_eq a b ≡ false

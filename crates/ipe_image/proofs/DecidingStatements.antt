@@ -1,5 +1,5 @@
 -- The statement by which the parts of a policy decide is the policy's.
-use Rattle.std.proofs.Common.{◌≡◌, ◌∙◌, ℕ, ◌-◌, suc, zero, Bool, true, false, cond, List, [], ◌∷◌, map, slice_get, Option, Some, None, is_some, option_map, refl, ap, sym}
+use Rattle.std.proofs.Common.{◌≡◌, ◌∙◌, ℕ, ◌-◌, suc, zero, Bool, true, false, List, [], ◌∷◌, slice_get, Option, Some, None, is_some, option_map, refl, ap, sym}
 use Rattle.std.specs.List.{filter, filter_map, find}
 use Rattle.std.specs.Option.{option_and_then}
 use Rattle.ipe_policy.specs.declared.op.Op.{Op}
@@ -8,13 +8,12 @@ use Rattle.ipe_policy.specs.declared.statement.Statement.{Statement}
 use Rattle.ipe_policy.specs.declared.statement.Statement.TheVariants as statement
 use Rattle.ipe_policy.specs.declared.evaluation.Context.{Context}
 use Rattle.ipe_policy.specs.declared.evaluation.Found.{Found}
-use Rattle.ipe_policy.specs.declared.evaluation.Which.{Which}
 use Rattle.ipe_policy.specs.declared.evaluation.Which.TheVariants as which
 use Rattle.ipe_policy.specs.Statement.{RuleParts, global_default_of, op_default_of, rule_of, same_op}
 use Rattle.ipe_policy.specs.Policy.{global_defaults, op_defaults}
 use Rattle.ipe_policy.specs.Evaluation.{decision, deciding_statement, first_default, first_match, found_statement}
 use Rattle.ipe_image.specs.Parts.{parts_of, rule_statement}
-use Rattle.ipe_image.specs.Decision.{deciding, statement_by}
+use Rattle.ipe_image.specs.Decision.{deciding}
 use Rattle.ipe_image.specs.Answer.{IsRuling}
 use Rattle.ipe_image.specs.declared.hit.Hit.{Hit}
 use Rattle.ipe_image.proofs.Policies.{decide-alike}

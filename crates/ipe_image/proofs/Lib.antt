@@ -2,8 +2,9 @@ pub mod WordLists
 pub mod Bytes
 pub mod Compare
 pub mod Sizes
+pub mod Groups
+pub mod Tabling
 pub mod Splits
-pub mod Turning
 pub mod Places
 pub mod Records
 pub mod Told

@@ -1,5 +1,5 @@
 -- The parts of a policy.
-use Rattle.std.proofs.Common.{◌≡◌, ◌∙◌, ℕ, ◌≤◌, Bool, true, false, ◌||◌, List, [], ◌∷◌, ◌++◌, replicate, length, map, slice_get, Option, Some, None, is_some, refl, ap, arith}
+use Rattle.std.proofs.Common.{◌≡◌, ◌∙◌, ℕ, ◌≤◌, Bool, true, false, ◌||◌, List, [], ◌∷◌, ◌++◌, length, map, slice_get, Option, Some, None, is_some, refl, ap, arith}
 use Rattle.std.specs.List.{filter_map, list_all}
 use borrow.Author.Tests.{le-leb}
 use Rattle.std.proofs.lemmas.Bool.{and_from}
@@ -17,7 +17,7 @@ use Rattle.ipe_policy.specs.Evaluation.{decision, first_default, first_match}
 use Rattle.ipe_image.specs.Parts.{own_default, parts_of}
 use Rattle.ipe_image.specs.Reading.{has_defaults, is_complete}
 use Rattle.ipe_policy.specs.Spelling.{words_of_image}
-use Rattle.ipe_image.specs.Image.{default_word, image_of, records, words_used}
+use Rattle.ipe_image.specs.Image.{default_word, grouped, image_of, records, tables, words_used}
 use Rattle.ipe_image.specs.Decision.{decision_in, default_found, default_in}
 use Rattle.ipe_image.specs.Law.{HasImage}
 use Rattle.ipe_image.proofs.Rules.{rules-fit}
@@ -103,11 +103,12 @@ decide-alike items serial op context = at (first_match items op context) refl
     at (Some rule) e = rw e
     at None e = rw e (defaults-alike items serial op)
 
--- the words before the records and the records are the image of a policy
+-- the words before the tables, the tables and the records are the image of a policy
 pub compiled : (items slice : List Statement) (serial words : ℕ) (first head all : List ℕ) → slice ≡ items
     → words ≡ words_of_image items → first ≡ []
     → head ≡ first ++ words ∷ serial ∷ default_word (slice_get (global_defaults slice) 0) ∷ (map (λ op. default_word
-    (slice_get (op_defaults op slice) 0)) operations ++ length (filter_map rule_of slice) ∷ replicate 14 0)
-    → all ≡ head ++ records 1 (filter_map rule_of slice) → all ≡ image_of (parts_of serial items)
+    (slice_get (op_defaults op slice) 0)) operations ++ length (filter_map rule_of slice) ∷ [])
+    → all ≡ head ++ (tables (filter_map rule_of slice) ++ records (grouped (filter_map rule_of slice)))
+    → all ≡ image_of (parts_of serial items)
 compiled items slice serial words first head all slice_is words_is first_is head_is all_is =
     rw (all_is, head_is, first_is, words_is, slice_is)

@@ -1,8 +1,8 @@
 -- An image is read as the parts that it was made of.
-use Rattle.std.proofs.Common.{◌≡◌, ◌∙◌, ℕ, ◌+◌, ◌*◌, ◌/◌, ◌%◌, ◌^◌, ◌<◌, ◌≤◌, suc, Bool, true, false, ◌==◌, ◌&&◌, cond, List, [], ◌∷◌, ◌++◌, length, map, get_or, take, drop, slice_get, Option, Some, None, is_some, ◌-◌, replicate, option_map, refl, ap, arith, append_assoc, length-append}
-use Rattle.std.specs.Prelude.{option_and_then}
+use Rattle.std.proofs.Common.{◌≡◌, ◌∙◌, ℕ, ◌+◌, ◌*◌, ◌/◌, ◌%◌, ◌^◌, ◌<◌, ◌≤◌, suc, Bool, true, false, ◌==◌, ◌&&◌, cond, List, [], ◌∷◌, ◌++◌, length, map, get_or, take, drop, slice_get, Option, Some, None, is_some, ◌-◌, replicate, sum_by, sym, option_map, refl, ap, arith, append_assoc, length-append}
+use Rattle.std.specs.Prelude.{nat_le, option_and_then}
 use Rattle.std.specs.List.{flat_map, list_all}
-use Rattle.std.proofs.lemmas.Bool.{and_parts, and_from}
+use Rattle.std.proofs.lemmas.Bool.{and_parts, and_from, leb-true}
 use Rattle.std.proofs.lemmas.List.{drop_at, length-map, take_at}
 use Rattle.std.proofs.lemmas.Slice.Eq.{bytes_eq-Decides}
 use Rattle.ipe_policy.specs.declared.op.Op.{Op}
@@ -16,11 +16,12 @@ use Rattle.ipe_policy.specs.Statement.{RuleParts, op_number, operations}
 use Rattle.ipe_policy.specs.Spelling.{property_words, rule_words, words_for}
 use Rattle.ipe_image.specs.Packing.{byte_words, unpacked}
 use Rattle.ipe_image.specs.Parts.{ImageParts}
-use Rattle.ipe_image.specs.Image.{action_number, default_word, image_head, image_of, property_image, records, rule_head, rule_record, words_used}
-use Rattle.ipe_image.specs.Reading.{begin_with, decoded, default_read, digest_read, fits_digest, fits_property, fits_rule, image_in, is_complete, kind_read, properties_read, property_read, rule_read, rules_read}
+use Rattle.ipe_image.specs.Image.{action_number, default_word, grouped, image_head, image_of, property_image, records, rule_head, rule_record, tables, words_used}
+use Rattle.ipe_image.specs.Reading.{begin_with, decoded, default_read, digest_read, fits_digest, fits_property, fits_rule, image_in, in_text_order, is_complete, kind_read, properties_read, property_read, rule_read, rules_read}
 use Rattle.ipe_image.specs.Reader.{filled}
 use Rattle.ipe_image.proofs.Told.{read-begins, read-some}
 use Rattle.ipe_image.proofs.Bytes.{bytes-read, length-packed_words}
+use Rattle.ipe_image.proofs.Groups.{in-text-order, length-grouped, sound, sound-grouped, words-grouped}
 use Rattle.ipe_image.proofs.Sizes.{digest-bounds, few-rule_properties, few-rule_words, fewer-rules, length-property_image, length-records, length-rule_record}
 use Rattle.ipe_image.proofs.Places.{Complete, complete-facts, default-read, op-below, places}
 
@@ -149,23 +150,33 @@ rule-back number rule more narrow fits =
     (omega arith) (omega arith) (omega arith) (op-back rule.op) (action-back rule.action)
     (properties-back rule.properties more (and_parts _ _ fits).1)
 
--- rules are read back from their records
-pub rules-back : (number : ℕ) (rules : List RuleParts) (more : List ℕ) → number + length rules ≤ 2 ^ 32
-    → list_all fits_rule rules ≡ true → rules_read (length rules) (records number rules ++ more) ≡ Some rules
-rules-back number [] more narrow fit = refl
-rules-back number (rule ∷ rules) more narrow fit =
-    let parts = and_parts (fits_rule rule) (list_all fits_rule rules) fit in
-    let rest = records (number + 1) rules ++ more in
-    let spread : records number (rule ∷ rules) ++ more ≡ rule_record number rule ++ rest =
-    append_assoc (rule_record number rule) (records (number + 1) rules) more in
-    let dropped : drop (rule_words rule) (rule_record number rule ++ rest) ≡ rest =
-    drop_at (rule_record number rule) rest (rule_words rule) (length-rule_record number rule) in
+-- a rule's number is read back from its record
+number-back : (number : ℕ) (rule : RuleParts) (more : List ℕ) → number < 2 ^ 32
+    → get_or (rule_record number rule ++ more) 0 0 % 2 ^ 32 ≡ number
+number-back number rule more narrow = omega arith
+
+-- rules are read back from their records, with their numbers
+pub rules-back : (rules : List (ℕ × RuleParts)) (more : List ℕ) → list_all sound rules ≡ true
+    → rules_read (length rules) (records rules ++ more) ≡ Some rules
+rules-back [] more all = refl
+rules-back (rule ∷ rules) more all =
+    let parts = and_parts (sound rule) (list_all sound rules) all in
+    let one = and_parts (nat_le rule.0 4096) (fits_rule rule.1) parts.0 in
+    let narrow : rule.0 < 2 ^ 32 = omega (arith, leb-true rule.0 4096 one.0) in
+    let record_of = rule_record rule.0 rule.1 in
+    let rest = records rules ++ more in
+    let spread : records (rule ∷ rules) ++ more ≡ record_of ++ rest = append_assoc record_of (records rules) more in
+    let dropped : drop (rule_words rule.1) (record_of ++ rest) ≡ rest =
+    drop_at record_of rest (rule_words rule.1) (length-rule_record rule.0 rule.1) in
+    let number : get_or (record_of ++ rest) 0 0 % 2 ^ 32 ≡ rule.0 = number-back rule.0 rule.1 rest narrow in
     ap (rules_read (suc (length rules))) spread
-    ∙ ap (λ (o : Option RuleParts). option_and_then (λ r. option_map (λ rs. r ∷ rs) (rules_read (length rules) (drop
-    (rule_words r) (rule_record number rule ++ rest)))) o) (rule-back number rule rest (omega arith) parts.0)
+    ∙ ap (λ (o : Option RuleParts). option_and_then (λ r. option_map (λ rs. (get_or (record_of ++ rest) 0 0 % 2 ^ 32, r)
+    ∷ rs) (rules_read (length rules) (drop (rule_words r) (record_of ++ rest)))) o)
+    (rule-back rule.0 rule.1 rest narrow one.1)
+    ∙ ap (λ (n : ℕ). option_map (λ rs. (n, rule.1) ∷ rs) (rules_read (length rules) (drop (rule_words rule.1)
+    (record_of ++ rest)))) number
     ∙ ap (λ (ws : List ℕ). option_map (λ rs. rule ∷ rs) (rules_read (length rules) ws)) dropped
-    ∙ ap (λ (o : Option (List RuleParts)). option_map (λ rs. rule ∷ rs) o) (rules-back (number + 1) rules more
-    (omega arith) parts.1)
+    ∙ ap (λ (o : Option (List (ℕ × RuleParts))). option_map (λ rs. rule ∷ rs) o) (rules-back rules more parts.1)
 
 -- defaults are read back from their words
 defaults-back : (defaults : List (Option Action)) → map default_read (map default_word defaults) ≡ defaults
@@ -175,31 +186,32 @@ defaults-back (own ∷ defaults) =
     ∙ ap (λ (os : List (Option Action)). own ∷ os) (defaults-back defaults)
 
 -- parts that are put together again
-parts-from : (parts : ImageParts) (serial global count : ℕ) (defaults words : List ℕ) → serial ≡ parts.serial
-    → default_read global ≡ parts.global → map default_read defaults ≡ parts.defaults
-    → rules_read count words ≡ Some parts.rules
+parts-from : (parts : ImageParts) (rules : List (ℕ × RuleParts)) (serial global count : ℕ) (defaults words : List ℕ)
+    → serial ≡ parts.serial → default_read global ≡ parts.global → map default_read defaults ≡ parts.defaults
+    → rules_read count words ≡ Some rules → in_text_order rules ≡ parts.rules
     → option_map (λ rules. record {
       serial = serial;
       global = default_read global;
-      defaults = map default_read
-          defaults;
-      rules = rules;
+      defaults = map default_read defaults;
+      rules = in_text_order rules;
     }) (rules_read count words) ≡ Some parts
-parts-from parts serial global count defaults words serial_is global_is defaults_is rules_is =
-    rw (serial_is, global_is, defaults_is, rules_is)
+parts-from parts rules serial global count defaults words serial_is global_is defaults_is rules_are order =
+    rw (serial_is, global_is, defaults_is, rules_are, order)
 
 pub decoded-back : (parts : ImageParts) (more : List ℕ) → Complete parts → decoded (image_of parts ++ more) ≡ Some parts
 decoded-back parts more complete =
     let words = image_of parts ++ more in
     let p = places words parts more complete refl in
+    let all = grouped parts.rules in
     let few = complete.few in
-    let fewer = fewer-rules parts.rules in
-    let back : rules_read (get_or words 10 0) (drop 25 words) ≡ Some parts.rules =
-    ap (λ (n : ℕ). rules_read n (drop 25 words)) p.count ∙ ap (rules_read (length parts.rules)) p.rest
-    ∙ rules-back 1 parts.rules more (omega arith) complete.fit in
-    parts-from parts (get_or words 1 0) (get_or words 2 0) (get_or words 10 0) (take 7 (drop 3 words)) (drop 25 words)
+    let fewer : length parts.rules ≤ 4096 = omega (arith, fewer-rules parts.rules) in
+    let back : rules_read (get_or words 10 0) (drop 25 words) ≡ Some all =
+    ap (λ (n : ℕ). rules_read n (drop 25 words)) (p.count ∙ sym (length-grouped parts.rules))
+    ∙ ap (rules_read (length all)) p.rest
+    ∙ rules-back all more (sound-grouped parts.rules fewer complete.fit) in
+    parts-from parts all (get_or words 1 0) (get_or words 2 0) (get_or words 10 0) (take 7 (drop 3 words)) (drop 25 words)
     p.serial (ap default_read p.global ∙ default-read parts.global) (ap (map default_read) p.defaults
-    ∙ defaults-back parts.defaults) back
+    ∙ defaults-back parts.defaults) back (in-text-order parts.rules)
 
 -- words that begin with the image of complete parts tell these
 pub image-back : (parts : ImageParts) (more : List ℕ) → is_complete parts ≡ true
@@ -236,13 +248,14 @@ some-filled count words some = let s = read-some words some in ap is_some (image
 -- an image of complete parts is as long as it says
 pub length-image : (parts : ImageParts) → Complete parts → length (image_of parts) ≡ words_used parts
 length-image parts complete =
+    let all = records (grouped parts.rules) in
     let seven : length (map default_word parts.defaults) ≡ 7 = length-map parts.defaults default_word
     ∙ complete.seven in
+    let rules : length all ≡ sum_by rule_words parts.rules =
+    length-records (grouped parts.rules) ∙ words-grouped parts.rules in
+    let tail : length (length parts.rules ∷ tables parts.rules) ≡ 15 = omega arith in
     omega (
       arith,
-      length-append (image_head parts)
-          (records 1 parts.rules),
-      length-records 1 parts.rules,
-      length-append (map default_word parts.defaults)
-          (length parts.rules ∷ replicate 14 0),
+      length-append (image_head parts) all,
+      length-append (map default_word parts.defaults) (length parts.rules ∷ tables parts.rules),
     )

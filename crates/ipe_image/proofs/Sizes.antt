@@ -13,7 +13,7 @@ use Rattle.ipe_policy.specs.Words.{is_alg_byte, is_alg_name}
 use Rattle.line_words.specs.Words.{is_digit, is_lower}
 use Rattle.ipe_policy.specs.Spelling.{property_words, rule_words, words_for}
 use Rattle.ipe_image.specs.Packing.{byte_words}
-use Rattle.ipe_image.specs.Image.{named_digest, property_image, rule_record, records}
+use Rattle.ipe_image.specs.Image.{named_digest, property_image, rule_record, records, words_of}
 use Rattle.ipe_image.specs.Reading.{fits_digest, fits_property, fits_rule, fits_byte}
 use Rattle.ipe_image.proofs.Bytes.{length-packed_words}
 
@@ -56,17 +56,15 @@ length-properties (property ∷ properties) =
 pub length-rule_record : (number : ℕ) (rule : RuleParts) → length (rule_record number rule) ≡ rule_words rule
 length-rule_record number rule = omega (arith, length-properties rule.properties)
 
-pub length-records : (number : ℕ) (rules : List RuleParts) → length (records number rules) ≡ sum_by rule_words rules
-length-records number [] = refl
-length-records number (rule ∷ rules) =
+pub length-records : (rules : List (ℕ × RuleParts)) → length (records rules) ≡ words_of rules
+length-records [] = refl
+length-records (rule ∷ rules) =
     omega (
       arith,
-      length-append (rule_record number rule) (records
-          (number + 1) rules),
-      length-rule_record number rule,
-      length-records
-          (number + 1) rules,
-      sum_by-cons rule_words rule rules,
+      length-append (rule_record rule.0 rule.1) (records rules),
+      length-rule_record rule.0 rule.1,
+      length-records rules,
+      sum_by-cons (λ (r : ℕ × RuleParts). rule_words r.1) rule rules,
     )
 
 -- the byte of an algorithm's name is a byte

@@ -3,7 +3,7 @@ use Rattle.std.specs.Prelude.{◌≡◌, ℕ, ◌<◌, ◌^◌, IsTrue, List, �
 use Rattle.std.specs.List.{flat_map, list_all}
 use Rattle.ipe_policy.specs.declared.statement.Property.{Property}
 use Rattle.ipe_policy.specs.declared.statement.Property.TheVariants as property
-use Rattle.ipe_policy.specs.Statement.{RuleParts, op_number}
+use Rattle.ipe_policy.specs.Statement.{RuleParts}
 use Rattle.ipe_policy.specs.Spelling.{rule_words}
 use Rattle.ipe_image.specs.declared.head.PropertyKind.{PropertyKind}
 use Rattle.ipe_image.specs.declared.head.PropertyKind.TheVariants as kind
@@ -21,8 +21,7 @@ pub record IsRuleHead (word number : ℕ) (rule : RuleParts) : Type 0 where
 
 -- what the head of a rule tells
 abbrev pub told_of_rule : ℕ → RuleParts → RuleHead
-told_of_rule number rule =
-    record { number = number; op = op_number rule.op; action = rule.action; words = rule_words rule }
+told_of_rule number rule = record { number = number; action = rule.action; words = rule_words rule }
 
 -- a word is the head of this property
 pub record IsPropertyHead (word : ℕ) (property : Property) : Type 0 where

@@ -1,12 +1,13 @@
 -- The words of an image, bits counted from the lowest.
-use Rattle.std.specs.Prelude.{ℕ, ◌+◌, ◌*◌, ◌^◌, Bool, true, false, List, [], ◌∷◌, ◌++◌, length, map, sum_by, replicate, Option, Some, None}
-use Rattle.std.specs.List.{flat_map}
+use Rattle.std.specs.Prelude.{ℕ, ◌+◌, ◌*◌, ◌^◌, ◌==◌, if◌then◌else◌, Bool, true, false, List, [], ◌∷◌, ◌++◌, length, map, sum_by, take, Option, Some, None}
+use Rattle.std.specs.List.{enumerate_from, filter, flat_map}
+use Rattle.ipe_policy.specs.declared.op.Op.{Op}
 use Rattle.ipe_policy.specs.declared.op.Action.{Action}
 use Rattle.ipe_policy.specs.declared.op.Action.TheVariants.{Allow, Deny}
 use Rattle.ipe_policy.specs.declared.statement.Digest.{Digest}
 use Rattle.ipe_policy.specs.declared.statement.Property.{Property}
 use Rattle.ipe_policy.specs.declared.statement.Property.TheVariants.{BootVerified, DmverityRoothash, DmveritySignature, FsverityDigest, FsveritySignature}
-use Rattle.ipe_policy.specs.Statement.{RuleParts, op_number}
+use Rattle.ipe_policy.specs.Statement.{RuleParts, op_number, operations, same_op}
 use Rattle.ipe_policy.specs.Spelling.{rule_words}
 use Rattle.ipe_image.specs.Packing.{byte_words}
 use Rattle.ipe_image.specs.Parts.{ImageParts}
@@ -71,21 +72,49 @@ rule_head number rule =
 abbrev pub rule_record : ℕ → RuleParts → List ℕ
 rule_record number rule = rule_head number rule ∷ flat_map property_image rule.properties
 
--- the words of rules that are numbered from this number on
-abbrev pub records : ℕ → List RuleParts → List ℕ
-records number [] = []
-records number (rule ∷ rules) = rule_record number rule ++ records (number + 1) rules
+-- the rules of an operation in text order, each with its number in the text, from 1
+abbrev pub rules_of : List RuleParts → Op → List (ℕ × RuleParts)
+rules_of rules op = filter (λ rule. same_op op rule.1.op) (enumerate_from 1 rules)
+
+-- the rules grouped by operation in order, in text order within each
+abbrev pub grouped : List RuleParts → List (ℕ × RuleParts)
+grouped rules = flat_map (rules_of rules) operations
+
+-- the records of numbered rules, one after the other
+abbrev pub records : List (ℕ × RuleParts) → List ℕ
+records rules = flat_map (λ rule. rule_record rule.0 rule.1) rules
+
+-- how many words the records of numbered rules have
+abbrev pub words_of : List (ℕ × RuleParts) → ℕ
+words_of rules = sum_by (λ rule. rule_words rule.1) rules
+
+-- how many words the records of an operation have
+abbrev pub words_of_op : List RuleParts → Op → ℕ
+words_of_op rules op = words_of (rules_of rules op)
+
+-- the place of the first of so many records; 0 where there is none
+abbrev pub place_if_any : ℕ → ℕ → ℕ
+place_if_any at count = if count == 0 then 0 else at
+
+-- the place of an operation's first record, after 25 words and the records of the operations before; 0 where it has none
+abbrev pub place_of : List RuleParts → Op → ℕ
+place_of rules op =
+    place_if_any (25 + sum_by (words_of_op rules) (take (op_number op) operations)) (length (rules_of rules op))
 
 -- how many words the image has: 25 before the records, and the records
 abbrev pub words_used : ImageParts → ℕ
 words_used parts = 25 + sum_by rule_words parts.rules
 
+-- the words that tell where the records of each operation begin, and how many there are of each
+abbrev pub tables : List RuleParts → List ℕ
+tables rules = map (place_of rules) operations ++ map (λ op. length (rules_of rules op)) operations
+
 -- the words before the records
 abbrev pub image_head : ImageParts → List ℕ
 image_head parts =
     words_used parts ∷ parts.serial ∷ default_word parts.global
-    ∷ (map default_word parts.defaults ++ length parts.rules ∷ replicate 14 0)
+    ∷ (map default_word parts.defaults ++ length parts.rules ∷ tables parts.rules)
 
 -- the words of a whole image
 abbrev pub image_of : ImageParts → List ℕ
-image_of parts = image_head parts ++ records 1 parts.rules
+image_of parts = image_head parts ++ records (grouped parts.rules)

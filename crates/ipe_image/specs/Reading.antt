@@ -1,6 +1,6 @@
 -- What words tell, if they begin with an image.
 use Rattle.std.specs.Prelude.{ℕ, ◌/◌, ◌%◌, ◌^◌, ◌==◌, ◌&&◌, ◌||◌, nat_eq, nat_le, nat_lt, Bool, true, zero, suc, if◌then◌else◌, List, [], ◌∷◌, length, map, take, drop, slice_get, slice_index, Option, Some, None, is_some}
-use Rattle.std.specs.List.{list_all}
+use Rattle.std.specs.List.{enumerate_from, filter_map, find, list_all}
 use Rattle.std.specs.Option.{option_and_then, option_map}
 use Rattle.ipe_policy.specs.declared.op.Action.{Action}
 use Rattle.ipe_policy.specs.declared.op.Action.TheVariants.{Allow, Deny}
@@ -59,12 +59,20 @@ rule_read words =
     (default_read (head / 2 ^ 40 % 256)))
     (slice_get operations (head / 2 ^ 32 % 256))
 
--- so many rules, one after the other
-abbrev pub rules_read : ℕ → List ℕ → Option (List RuleParts)
+-- so many rules, one after the other, each with the number that its record has
+abbrev pub rules_read : ℕ → List ℕ → Option (List (ℕ × RuleParts))
 rules_read zero words = Some []
 rules_read (suc count) words =
-    option_and_then (λ rule. option_map (λ rules. rule ∷ rules) (rules_read count (drop (rule_words rule) words)))
-    (rule_read words)
+    option_and_then (λ rule. option_map (λ rules. (slice_index words 0 % 2 ^ 32, rule) ∷ rules)
+    (rules_read count (drop (rule_words rule) words))) (rule_read words)
+
+-- the first rule of this number
+abbrev pub rule_numbered : List (ℕ × RuleParts) → ℕ → Option RuleParts
+rule_numbered rules number = option_map (λ rule. rule.1) (find (λ rule. rule.0 == number) rules)
+
+-- the rules in the order of their numbers, from 1 to as many as they are
+abbrev pub in_text_order : List (ℕ × RuleParts) → List RuleParts
+in_text_order rules = filter_map (λ place. rule_numbered rules place.0) (enumerate_from 1 rules)
 
 -- the parts that words tell from their beginning, record by record
 abbrev pub decoded : List ℕ → Option ImageParts
@@ -73,7 +81,7 @@ decoded words =
       serial = slice_index words 1;
       global = default_read (slice_index words 2);
       defaults = map default_read (take 7 (drop 3 words));
-      rules = rules;
+      rules = in_text_order rules;
     }) (rules_read (slice_index words 10) (drop 25 words))
 
 -- a number that a byte holds

@@ -39,12 +39,10 @@ pub(crate) fn action_number(action: Action) -> u64
     }
 }
 
-/// What the head of a rule tells: the rule's number, its operation's place in their order, its action, and how many
-/// words it has with the head.
+/// What the head of a rule tells: the rule's number, its action, and how many words it has with the head.
 #[derive(Clone, Copy)]
 pub(crate) struct RuleHead {
     pub number: u32,
-    pub op: u32,
     pub action: Action,
     pub words: u32,
 }
@@ -55,7 +53,6 @@ impl RuleHead {
     {
         RuleHead {
             number: (word % 0x1_0000_0000) as u32,
-            op: (word / 0x1_0000_0000 % 256) as u32,
             action: action_of(word / 0x100_0000_0000 % 256).unwrap_or(Action::Deny),
             words: (word / 0x100_0000_0000_0000) as u32,
         }
@@ -119,14 +116,5 @@ impl PropertyHead {
             alg_len: (word / 0x1_0000 % 256) as usize,
             digest_len: (word / 0x100_0000 % 256) as usize,
         }
-    }
-
-    /// How many words the property has with the head.
-    pub fn words(self) -> u32
-        requires alg { self.alg_len ≤ 255 }
-        requires digest { self.digest_len ≤ 255 }
-        ensures { result ≡ 1 + words_for self.alg_len + words_for self.digest_len }
-    {
-        1 + words_for(self.alg_len) as u32 + words_for(self.digest_len) as u32
     }
 }

@@ -20,7 +20,7 @@ pub use compiling::{CompileError, Image, compile};
 pub use deciding::decide_words;
 pub use hit::{Hit, Place, Ruling};
 pub use law::images_are_read_as_themselves;
-pub use reader::{SliceReader, WordReader};
+pub use reader::{CountingReader, SliceReader, WordReader};
 pub use wording::rule_text;
 
 #[cfg(test)]

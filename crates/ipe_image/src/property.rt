@@ -3,10 +3,8 @@ ghost use Rattle.std.specs.List.{list_all};
 ghost use Rattle.ipe_policy.specs.Evaluation.{has_digest, holds_in, is_signed};
 ghost use Rattle.ipe_policy.specs.declared.statement.Property.{Property};
 ghost use Rattle.ipe_image.specs.Image.{named_digest};
-ghost use Rattle.ipe_image.specs.Heads.{BeginsWithProperty, IsWordsOf};
-ghost use Rattle.ipe_image.specs.Found.{IsPropertyAt, StandFrom};
+ghost use Rattle.ipe_image.specs.Heads.{ArePropertyImages, BeginsWithProperty, IsWordsOf};
 
-use crate::WordReader;
 use crate::head::{PropertyHead, PropertyKind, words_for};
 use crate::packing::are_words_of;
 use ipe_policy::{Context, Signed};
@@ -42,17 +40,10 @@ fn is_signed(part: &Option<Signed>) -> bool
     }
 }
 
-// Whether the part has the digest of the property of this head: of the same lengths, and word by word.
-fn has_digest<R: WordReader>(
-    reader: &mut R,
-    at: u32,
-    head: PropertyHead,
-    part: &Option<Signed>,
-) -> bool
-    requires { (named : Property) × IsPropertyAt (R.words reader.old) at head named }
-    ensures stays { R.words reader.new ≡ R.words reader.old }
-    ensures kept { R.kept reader.new ≡ R.kept reader.old }
-    ensures has { (named : Property) → IsPropertyAt (R.words reader.old) at head named →
+// Whether the part has the digest of a property: of the same lengths, and word by word.
+fn has_digest(property: &PropertyWords<'_>, part: &Option<Signed>) -> bool
+    requires { (named : Property) × IsWordsOf property.now.head property.now.alg.now property.now.digest.now named }
+    ensures { (named : Property) → IsWordsOf property.now.head property.now.alg.now property.now.digest.now named →
         result ≡ has_digest part.now (named_digest named) }
 {
     let Some(signed) = part else {
@@ -60,50 +51,41 @@ fn has_digest<R: WordReader>(
     };
     let alg = signed.digest.alg.as_slice();
     let bytes = signed.digest.bytes.as_slice();
-    if alg.len() != head.alg_len || bytes.len() != head.digest_len {
+    if alg.len() != property.head.alg_len || bytes.len() != property.head.digest_len {
         return false;
     }
-    let behind = at + 1 + words_for(head.alg_len) as u32;
-    are_words_of(reader, at + 1, alg) && are_words_of(reader, behind, bytes)
+    are_words_of(property.alg, alg) && are_words_of(property.digest, bytes)
 }
 
-// Whether the property of this head holds of a file.
-fn holds<R: WordReader>(reader: &mut R, at: u32, head: PropertyHead, context: &Context) -> bool
-    requires { (named : Property) × IsPropertyAt (R.words reader.old) at head named }
-    ensures stays { R.words reader.new ≡ R.words reader.old }
-    ensures kept { R.kept reader.new ≡ R.kept reader.old }
-    ensures holds { (named : Property) → IsPropertyAt (R.words reader.old) at head named →
+// Whether a property holds of a file.
+fn holds(property: &PropertyWords<'_>, context: &Context) -> bool
+    requires { (named : Property) × IsWordsOf property.now.head property.now.alg.now property.now.digest.now named }
+    ensures { (named : Property) → IsWordsOf property.now.head property.now.alg.now property.now.digest.now named →
         result ≡ holds_in context.now named }
 {
-    match head.kind {
-        PropertyKind::BootVerified => head.wanted == context.boot,
-        PropertyKind::DmveritySignature => head.wanted == is_signed(&context.dm),
-        PropertyKind::FsveritySignature => head.wanted == is_signed(&context.fs),
-        PropertyKind::DmverityRoothash => has_digest(reader, at, head, &context.dm),
-        PropertyKind::FsverityDigest => has_digest(reader, at, head, &context.fs),
+    let wanted = property.head.wanted;
+    match property.head.kind {
+        PropertyKind::BootVerified => wanted == context.boot,
+        PropertyKind::DmveritySignature => wanted == is_signed(&context.dm),
+        PropertyKind::FsveritySignature => wanted == is_signed(&context.fs),
+        PropertyKind::DmverityRoothash => has_digest(property, &context.dm),
+        PropertyKind::FsverityDigest => has_digest(property, &context.fs),
     }
 }
 
-/// Whether all the properties hold of a file whose words stand from a place up to an end.
-pub(crate) fn all_hold<R: WordReader>(
-    reader: &mut R,
-    start: u32,
-    end: u32,
-    context: &Context,
-) -> bool
-    requires { (properties : List Property) × StandFrom (R.words reader.old) start end properties }
-    ensures stays { R.words reader.new ≡ R.words reader.old }
-    ensures kept { R.kept reader.new ≡ R.kept reader.old }
-    ensures hold { (properties : List Property) → StandFrom (R.words reader.old) start end properties →
+/// Whether all the properties hold of a file whose words these are, one after the other.
+pub(crate) fn all_hold(words: &[u64], context: &Context) -> bool
+    requires { (properties : List Property) × ArePropertyImages words.now properties }
+    ensures { (properties : List Property) → ArePropertyImages words.now properties →
         result ≡ list_all (holds_in context.now) properties }
 {
-    let mut at = start;
-    while at < end {
-        let head = PropertyHead::read(reader.word(at));
-        if !holds(reader, at, head, context) {
+    let mut rest = words;
+    while !rest.is_empty() {
+        let (property, behind) = first_property(rest);
+        if !holds(&property, context) {
             return false;
         }
-        at += head.words();
+        rest = behind;
     }
     true
 }

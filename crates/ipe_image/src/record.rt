@@ -1,10 +1,10 @@
-ghost use Rattle.std.specs.Prelude.{◌≡◌, ◌+◌, ◌*◌, ◌≤◌, ◌^◌, [], ◌∷◌, ◌++◌, OnOk, length};
+ghost use Rattle.std.specs.Prelude.{◌≡◌, ◌+◌, ◌*◌, ◌≤◌, ◌^◌, [], ◌∷◌, ◌++◌, IfOk, OnOk, length};
 ghost use Rattle.std.specs.List.{filter_map, flat_map};
 ghost use Rattle.arrayvec.specs.ArrayVec.{array_vec_len};
 ghost use Rattle.ipe_policy.specs.Spelling.{property_words, words_for};
-ghost use Rattle.ipe_policy.specs.Statement.{op_number, rule_of};
+ghost use Rattle.ipe_policy.specs.Statement.{op_number, rule_of, same_op};
 ghost use Rattle.ipe_image.specs.Heads.{kind_code};
-ghost use Rattle.ipe_image.specs.Image.{action_number, property_image, records, rule_record, truth_number};
+ghost use Rattle.ipe_image.specs.Image.{action_number, property_image, records, rule_record, rules_of, truth_number};
 ghost use Rattle.ipe_image.specs.Packing.{byte_words};
 
 use crate::head::{PropertyKind, action_number};
@@ -124,17 +124,33 @@ fn append_rule(
     image.extend_from_slice(words.as_slice())
 }
 
-/// Puts the records of the rules after the words of an image.
-pub(crate) fn append_records(image: &mut Vec<u64>, items: &[Statement]) -> Result<(), AllocError>
+fn same_op(a: Op, b: Op) -> bool
+    ensures { result ≡ same_op a b }
+{
+    a == b
+}
+
+/// Puts the records of an operation's rules after the words, and tells how many they are.
+pub(crate) fn append_records(
+    words: &mut Vec<u64>,
+    items: &[Statement],
+    group: Op,
+) -> Result<u64, AllocError>
     requires { length items.now ≤ 1048576 }
-    ensures { OnOk result (image.new.items ≡ image.old.items ++ records 1 (filter_map rule_of items.now)) }
+    ensures records { OnOk result (words.new.items ≡ words.old.items
+        ++ records (rules_of (filter_map rule_of items.now) group)) }
+    ensures count { IfOk result (λ count. count ≡ length (rules_of (filter_map rule_of items.now) group)) }
 {
     let mut number: u32 = 0;
+    let mut count = 0;
     for item in items {
         if let Statement::Rule { op, props, action } = item {
             number += 1;
-            append_rule(image, number, *op, props, *action)?;
+            if same_op(group, *op) {
+                append_rule(words, number, *op, props, *action)?;
+                count += 1;
+            }
         }
     }
-    Ok(())
+    Ok(count)
 }

@@ -1,7 +1,7 @@
 ghost use Rattle.std.specs.Prelude.{◌≡◌};
 ghost use Rattle.ipe_policy.specs.Policy.{IsNamedDigest};
 
-use crate::{Image, SliceReader, compile, decide_words, rule_text};
+use crate::{CountingReader, Image, SliceReader, compile, decide_words, rule_text};
 use ipe_policy::{
     Action, AlgName, Context, Digest, DigestBytes, Name, Op, Policy, Properties, Property, Signed,
     Statement, Statements, Version, Which,
@@ -74,14 +74,14 @@ fn compiles_to_words(rt: HostRuntime) -> Result<(), Fail> {
         0,
         0,
         1,
+        25,
         0,
         0,
         0,
         0,
         0,
         0,
-        0,
-        0,
+        1,
         0,
         0,
         0,
@@ -163,6 +163,93 @@ fn decides_from_words(rt: HostRuntime) -> Result<(), Fail> {
         deciding(&image, Op::Firmware, &second),
         Which::GlobalDefault
     );
+    Ok(())
+}
+
+fn revoking_policy(
+    alloc: Global,
+    name: Name,
+    first: Digest,
+    second: Digest,
+) -> Result<Policy, AllocError>
+    requires first { IsNamedDigest first }
+    requires second { IsNamedDigest second }
+{
+    let first = Properties::from_vec(vec![in alloc; Property::DmverityRoothash(first)]?);
+    let second = Properties::from_vec(vec![in alloc; Property::DmverityRoothash(second)]?);
+    let boot = Properties::from_vec(vec![in alloc; Property::BootVerified(true)]?);
+    let signed = Properties::from_vec(vec![in alloc; Property::DmveritySignature(true)]?);
+    let module_boot = Properties::from_vec(vec![in alloc; Property::BootVerified(true)]?);
+    let module_signed = Properties::from_vec(vec![in alloc; Property::DmveritySignature(true)]?);
+    let items = vec![in alloc;
+        Statement::GlobalDefault {
+            action: Action::Deny
+        },
+        Statement::Rule {
+            op: Op::Execute,
+            props: first,
+            action: Action::Deny
+        },
+        Statement::Rule {
+            op: Op::Execute,
+            props: second,
+            action: Action::Deny
+        },
+        Statement::Rule {
+            op: Op::Execute,
+            props: boot,
+            action: Action::Allow
+        },
+        Statement::Rule {
+            op: Op::Execute,
+            props: signed,
+            action: Action::Allow
+        },
+        Statement::Rule {
+            op: Op::Kmodule,
+            props: module_boot,
+            action: Action::Allow
+        },
+        Statement::Rule {
+            op: Op::Kmodule,
+            props: module_signed,
+            action: Action::Allow
+        },
+    ]?;
+    Ok(Policy {
+        name,
+        version: VERSION,
+        items: Statements::from_vec(items),
+    })
+}
+
+// The number of the rule whose record stands at a place.
+fn number_at(words: &[u64], place: usize) -> u64 {
+    words.get(place).copied().unwrap_or(0) % 0x1_0000_0000
+}
+
+#[test]
+fn reads_the_records_of_one_operation(rt: HostRuntime) -> Result<(), Fail> {
+    let name = Name::read(b"prod").expect(&rt, "a name");
+    let policy = revoking_policy(
+        rt.alloc(),
+        name,
+        digest(&rt, b"sha256", &[0xaa; 32]),
+        digest(&rt, b"sha256", &[0xbb; 32]),
+    )?;
+    let image = compile(rt.alloc(), &policy, 1)?;
+    let words = image.words();
+    assert_eq!(rt; words.len(), 47);
+    assert_eq!(rt; words.get(11).copied(), Some(25));
+    assert_eq!(rt; words.get(18).copied(), Some(4));
+    assert_eq!(rt; words.get(13).copied(), Some(43));
+    assert_eq!(rt; words.get(20).copied(), Some(2));
+    assert_eq!(rt; number_at(words, 43), 5);
+    assert_eq!(rt; number_at(words, 45), 6);
+    let mut reader = CountingReader::new(words);
+    let hit = decide_words(&mut reader, Op::Kmodule, &Context::none());
+    assert_eq!(rt; hit.found.which, Which::GlobalDefault);
+    assert!(rt; reader.reads() <= 9);
     Ok(())
 }
 

@@ -1,8 +1,10 @@
-use Rattle.std.proofs.Common.{◌≡◌, ◌∙◌, ◌≤◌, [], List, ℕ, length, Some, true, is_some, ap, sym, subst, arith, append-nil}
+use Rattle.std.proofs.Common.{◌≡◌, ◌∙◌, ◌≤◌, [], ◌++◌, List, ℕ, length, map, Some, true, is_some, ap, sym, subst, arith, append-nil}
+use Rattle.std.specs.List.{filter_map}
 use Rattle.ipe_policy.specs.Policy.{IsPolicy, PolicyParts}
+use Rattle.ipe_policy.specs.Statement.{RuleParts, operations, rule_of}
 use Rattle.ipe_policy.specs.Spelling.{words_of_image}
 use Rattle.ipe_image.specs.Parts.{ImageParts, parts_of}
-use Rattle.ipe_image.specs.Image.{image_of}
+use Rattle.ipe_image.specs.Image.{grouped, image_of, place_of, records, rules_of, tables}
 use Rattle.ipe_image.specs.Reading.{image_in, is_complete}
 use Rattle.ipe_image.proofs.Places.{complete-facts}
 use Rattle.ipe_image.proofs.Policies.{compiled, parts-complete}
@@ -23,20 +25,29 @@ few words parts h =
     let all = facts.few in
     omega (arith, ap length h.image, length-image parts facts)
 
-made : (c : goal.In_ok-append_records)
-    → Made c.append_records.new.image.items (parts_of c.args.serial c.args.policy.now.items)
+-- what was put after the head, where the tables and the records are known
+tabled : (head all places counts words : List ℕ) (rules : List RuleParts) → all ≡ head ++ ((places ++ counts) ++ words)
+    → places ≡ map (place_of rules) operations → counts ≡ map (λ op. length (rules_of rules op)) operations
+    → words ≡ records (grouped rules) → all ≡ head ++ (tables rules ++ records (grouped rules))
+tabled head all places counts words rules all_is places_are counts_are words_are =
+    rw (all_is, places_are, counts_are, words_are)
+
+made : (c : goal.In_ok-append_tables)
+    → Made c.append_tables.new.image.items (parts_of c.args.serial c.args.policy.now.items)
 made c =
     let items = c.args.policy.now.items in
     let same : c.policy.inside.items ≡ items = ap (λ (p : PolicyParts). p.items) c.policy.view_is in
     let slice : c.as_slice-items.result.now ≡ items = c.as_slice-items.ensures ∙ same in
     let words : c.image_words-words.result ≡ words_of_image items = c.image_words-words.ensures in
     let narrow : words_of_image items ≤ 4096 = omega arith in
+    let all = tabled _ _ _ _ _ (filter_map rule_of c.as_slice-items.result.now) c.in_ok-append_tables.ensures
+    c.in_ok-tables.ensures.places c.in_ok-tables.ensures.counts c.in_ok-tables.ensures.records in
     record {
       complete = parts-complete items c.args.serial
           (record { policy = subst IsPolicy same c.policy.invariant; few = narrow });
       image = compiled items c.as_slice-items.result.now c.args.serial c.image_words-words.result
-          c.in_ok-image.image.items c.append_head.new.image.items c.append_records.new.image.items
-          slice words c.in_ok-image.ensures.items c.in_ok-append_head.ensures c.in_ok-append_records.ensures;
+          c.in_ok-image.image.items c.append_head.new.image.items c.append_tables.new.image.items
+          slice words c.in_ok-image.ensures.items c.in_ok-append_head.ensures all;
     }
 
 pub invariant_of-result : goal.invariant_of-result

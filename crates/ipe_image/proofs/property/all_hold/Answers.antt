@@ -1,91 +1,57 @@
-use Rattle.std.proofs.Common.{◌≡◌, ◌∙◌, ℕ, ◌+◌, ◌<◌, ◌≤◌, Bool, true, false, ◌&&◌, List, length, drop, get_or, ap, sym, subst, arith}
-use Rattle.std.specs.List.{list_all}
+use Rattle.std.proofs.Common.{◌≡◌, ◌∙◌, ◌<◌, Bool, true, false, ◌&&◌, length, ap, arith}
+use Rattle.std.specs.List.{flat_map, list_all}
+use Rattle.std.proofs.lemmas.Grind.{common_steps}
 use Rattle.ipe_policy.specs.Evaluation.{holds_in}
-use Rattle.ipe_policy.specs.declared.evaluation.Context.{Context}
-use Rattle.ipe_policy.specs.declared.statement.Property.{Property}
-use Rattle.ipe_image.specs.declared.head.PropertyHead.{PropertyHead}
-use Rattle.ipe_image.specs.Heads.{IsPropertyHead, told_of_property}
-use Rattle.ipe_image.specs.Found.{IsPropertyAt, StandFrom}
-use Rattle.ipe_image.proofs.Splits.{FirstLeft, Left, first-left, none-left, size_of}
-use Rattle.ipe_image.proofs.Turning.{Turn, turn}
+use Rattle.ipe_image.specs.Image.{property_image}
+use Rattle.ipe_image.proofs.Splits.{first-left, none-left, parted}
 use Rattle.ipe_image.proofs.property.all_hold.Goals as goal
 
-pub word-requires : goal.word-requires
-word-requires g c =
-    let h = c.loop-at.invariant.2 c.requires.0 c.requires.1 in
-    let within = h.stand.within in
-    let same : length (g.R.WordReader.words c.loop-at.reader) ≡ length (g.R.WordReader.words c.args.reader.now) =
-    ap length c.loop-at.invariant.0 in
-    omega arith
+pub first_property-requires : goal.first_property-requires
+first_property-requires c =
+    let some : 0 < length c.loop-rest.rest.now = grind (arith, common_steps) in
+    let f = first-left _ _ _ some (c.loop-rest.invariant c.requires.0 c.requires.1) in
+    (f.property, flat_map property_image f.more, f.begins)
 
 pub holds-requires : goal.holds-requires
-holds-requires g c =
-    let t = turn (holds_in c.args.context.now) _ _ _ _ _ _ _ c.read-head.result c.loop-at.invariant.0
-    c.word.ensures.stays c.word.ensures.whole c.word.ensures.word c.loop-at-test.true c.read-head.ensures
-    (c.loop-at.invariant.2 c.requires.0 c.requires.1) in
-    (t.first.property, t.stands)
+holds-requires c =
+    let some : 0 < length c.loop-rest.rest.now = grind (arith, common_steps) in
+    let f = first-left _ _ _ some (c.loop-rest.invariant c.requires.0 c.requires.1) in
+    (f.property, c.first_property.ensures.property f.property (flat_map property_image f.more) f.begins)
 
-pub returns-then-not-holds-clause-hold : goal.returns-then-not-holds-clause-hold
-returns-then-not-holds-clause-hold g c properties are =
-    let t = turn (holds_in c.args.context.now) _ _ _ _ _ _ _ c.read-head.result c.loop-at.invariant.0
-    c.word.ensures.stays c.word.ensures.whole c.word.ensures.word c.loop-at-test.true c.read-head.ensures
-    (c.loop-at.invariant.2 properties are) in
-    let fails : false ≡ holds_in c.args.context.now t.first.property =
-    c.if-not-holds.ensures.holds t.first.property t.stands in
-    ap (λ (b : Bool). b && list_all (holds_in c.args.context.now) t.first.more) fails ∙ t.first.same
+pub returns-then-not-holds : goal.returns-then-not-holds
+returns-then-not-holds c properties are =
+    let some : 0 < length c.loop-rest.rest.now = grind (arith, common_steps) in
+    let f = first-left _ _ _ some (c.loop-rest.invariant properties are) in
+    let fails : false ≡ holds_in c.args.context.now f.property = c.if-not-holds.ensures f.property
+    (c.first_property.ensures.property f.property (flat_map property_image f.more) f.begins) in
+    ap (λ (b : Bool). b && list_all (holds_in c.args.context.now) f.more) fails ∙ f.same
 
-pub words-at-requires-clause-alg : goal.words-at-requires-clause-alg
-words-at-requires-clause-alg g c =
-    let t = turn (holds_in c.args.context.now) _ _ _ _ _ _ _ c.read-head.result c.loop-at.invariant.0
-    c.word.ensures.stays c.word.ensures.whole c.word.ensures.word c.loop-at-test.true c.read-head.ensures
-    (c.loop-at.invariant.2 c.requires.0 c.requires.1) in
-    let few = t.few_alg in
-    omega arith
+pub loop-rest-smaller : goal.loop-rest-smaller
+loop-rest-smaller c =
+    let some : 0 < length c.loop-rest.rest.now = grind (arith, common_steps) in
+    let f = first-left _ _ _ some (c.loop-rest.invariant c.requires.0 c.requires.1) in
+    let total = (parted _ _ _ f.begins).total in
+    let behind = ap length (c.first_property.ensures.behind f.property (flat_map property_image f.more) f.begins) in
+    let shorter : length c.first_property.result.1.now < length c.loop-rest.rest.now = omega arith in
+    shorter
 
-pub words-at-requires-clause-digest : goal.words-at-requires-clause-digest
-words-at-requires-clause-digest g c =
-    let t = turn (holds_in c.args.context.now) _ _ _ _ _ _ _ c.read-head.result c.loop-at.invariant.0
-    c.word.ensures.stays c.word.ensures.whole c.word.ensures.word c.loop-at-test.true c.read-head.ensures
-    (c.loop-at.invariant.2 c.requires.0 c.requires.1) in
-    let few = t.few_digest in
-    omega arith
+pub loop-rest-preserved : goal.loop-rest-preserved
+loop-rest-preserved c properties are =
+    let some : 0 < length c.loop-rest.rest.now = grind (arith, common_steps) in
+    let f = first-left _ _ _ some (c.loop-rest.invariant properties are) in
+    let begins = f.begins in
+    let holds : true ≡ holds_in c.args.context.now f.property = c.if-not-holds.ensures f.property
+    (c.first_property.ensures.property f.property (flat_map property_image f.more) begins) in
+    record {
+      left = f.more;
+      are = record {
+        fit = f.fit;
+        whole = c.first_property.ensures.behind f.property (flat_map property_image f.more) begins;
+      };
+      same = ap (λ (b : Bool). b && list_all (holds_in c.args.context.now) f.more) holds ∙ f.same;
+    }
 
-pub overflow_add-at : goal.overflow_add-at
-overflow_add-at g c =
-    let t = turn (holds_in c.args.context.now) _ _ _ _ _ _ _ c.read-head.result c.loop-at.invariant.0
-    c.word.ensures.stays c.word.ensures.whole c.word.ensures.word c.loop-at-test.true c.read-head.ensures
-    (c.loop-at.invariant.2 c.requires.0 c.requires.1) in
-    let size : c.words-at.result ≡ size_of t.first.property = c.words-at.ensures ∙ t.size in
-    let below = t.first.below in
-    let few = t.first.next.few in
-    omega arith
-
-pub loop-at-smaller : goal.loop-at-smaller
-loop-at-smaller g c =
-    let some : 1 ≤ c.words-at.result = omega (arith, c.words-at.ensures) in
-    let more : c.loop-at.at < c.args.end = c.loop-at-test.true in
-    omega arith
-
-pub loop-at-preserved : goal.loop-at-preserved
-loop-at-preserved g c = (
-  c.holds.ensures.stays ∙ c.word.ensures.stays ∙ c.loop-at.invariant.0,
-  c.holds.ensures.kept ∙ c.word.ensures.kept ∙ c.loop-at.invariant.1,
-  λ properties are.
-      let words = g.R.WordReader.words c.args.reader.now in
-      let t = turn (holds_in c.args.context.now) _ _ _ _ _ _ _ c.read-head.result c.loop-at.invariant.0
-      c.word.ensures.stays c.word.ensures.whole c.word.ensures.word c.loop-at-test.true c.read-head.ensures
-      (c.loop-at.invariant.2 properties are) in
-      let size : c.words-at.result ≡ size_of t.first.property = c.words-at.ensures ∙ t.size in
-      let holds : true ≡ holds_in c.args.context.now t.first.property =
-      c.if-not-holds.ensures.holds t.first.property t.stands in
-      record {
-        left = t.first.more;
-        stand = subst (λ (n : ℕ). StandFrom words (c.loop-at.at + n) c.args.end t.first.more) (sym size) t.first.next;
-        same = ap (λ (b : Bool). b && list_all (holds_in c.args.context.now) t.first.more) holds ∙ t.first.same;
-      },
-)
-
-pub returns-clause-hold : goal.returns-clause-hold
-returns-clause-hold g c properties are =
-    let over : c.args.end ≤ c.loop-at.at = omega arith in
-    sym (none-left _ _ _ _ _ over (c.loop-at.invariant.2 properties are))
+pub returns : goal.returns
+returns c properties are =
+    let none : length c.loop-rest.rest.now ≡ 0 = grind (arith, common_steps) in
+    none-left _ _ _ none (c.loop-rest.invariant properties are)

@@ -1,12 +1,6 @@
-use Rattle.std.proofs.Common.{◌≡◌, ◌+◌, ◌≤◌, ◌++◌, drop}
-use Rattle.std.specs.List.{filter_map}
-use Rattle.ipe_policy.specs.Statement.{rule_of}
-use Rattle.ipe_image.specs.Image.{records}
+use Rattle.ipe_image.proofs.Groups.{SoFar}
 use Rattle.ipe_image.proofs.record.append_records.Given as goal
 
--- the words so far and the records of the rest are all
+-- the words so far and the records of the rest are all, and so are the rules
 abbrev pub invariant-loop-item : goal.invariant-loop-item
-invariant-loop-item l =
-    (l.image.items ++ records (l.number + 1) (filter_map rule_of
-    (drop l.item-index l.items)) ≡ l.initial.image.items ++ records 1 (filter_map rule_of l.items))
-    × (l.number ≤ l.item-index)
+invariant-loop-item l = SoFar l.initial.words.items l.words.items l.items l.group l.number l.count l.item-index
