@@ -23,6 +23,3 @@ pub use meeting::Closed;
 pub use opening::start;
 pub use pass::{Claimed, Pass};
 pub use slot::Slot;
-
-#[cfg(test)]
-mod tests;

@@ -22,6 +22,3 @@ pub use laws::{hashed_files_are_the_images, undamaged_files_are_hashed};
 pub use objects::Objects;
 pub use reading::read_file;
 pub use view::View;
-
-#[cfg(test)]
-mod tests;

@@ -12,6 +12,3 @@ mod transcript;
 pub use ipe_gate::{Closed, Pass};
 pub use ipe_workers::{NoPace, Pace};
 pub use transcript::replay;
-
-#[cfg(test)]
-mod tests;

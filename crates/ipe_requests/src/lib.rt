@@ -41,12 +41,3 @@ pub use script::{
     Phase, PhaseLine, PhaseLines, Phases, SealLine, SealLines, TextLine, TextLines, VolumeLine,
     VolumeLines, WriteContent,
 };
-
-#[cfg(test)]
-mod fault_tests;
-#[cfg(test)]
-mod limit_tests;
-#[cfg(test)]
-mod print_tests;
-#[cfg(test)]
-mod tests;

@@ -1,8 +1,8 @@
 ghost use Rattle.ipe_objects.specs.Devices.{AreImages};
 ghost use Rattle.ipe_signer.specs.declared.signer.Verdict.TheVariants.{Trusted};
 
-use crate::{Images, ImagesError, Objects, View, load_images, read_file};
 use blk_device::{MemoryDevices, NamedBytes};
+use ipe_objects::{Images, ImagesError, Objects, View, load_images, read_file};
 use ipe_policy::Signed;
 use ipe_requests::{Requests, parse_requests};
 use ipe_signer::{Purpose, Signer, Verdict};

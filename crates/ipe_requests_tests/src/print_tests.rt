@@ -1,6 +1,6 @@
 use super::tests::ask;
-use super::*;
 use ipe_policy::{Kind, Request};
+use ipe_requests::*;
 use std::test::Fail;
 
 const FIRST_CHECK: &str = "ipe-requests 1

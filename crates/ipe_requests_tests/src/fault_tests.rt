@@ -1,5 +1,5 @@
 use super::tests::{DIGITS, HEAD, fault_of, filled};
-use super::*;
+use ipe_requests::*;
 use std::alloc::{AllocError, Global};
 use std::test::Fail;
 

@@ -1,6 +1,6 @@
 use Rattle.std.proofs.Common.{◌≡◌, List, Some, slice_get, ap, sym, ◌∙◌}
 use Rattle.ipe_gate.specs.declared.pass.Pass.{Pass}
-use Rattle.ipe_gate.proofs.tests.a_slot_is_placed_again_once_its_claims_are_returned.Goals as goal
+use Rattle.ipe_gate_tests.proofs.tests.a_slot_is_placed_again_once_its_claims_are_returned.Goals as goal
 
 pub finish-requires-clause-two : goal.finish-requires-clause-two
 finish-requires-clause-two g c =

@@ -1,4 +1,4 @@
-use super::*;
+use ipe_requests::*;
 use std::alloc::{AllocError, Global};
 use std::process::Abort;
 

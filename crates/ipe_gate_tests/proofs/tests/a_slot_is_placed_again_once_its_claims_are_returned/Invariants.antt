@@ -1,6 +1,6 @@
 use Rattle.std.proofs.Common.{◌≡◌}
 use Rattle.ipe_gate.specs.Seats.{admin_gate, passes_made}
-use Rattle.ipe_gate.proofs.tests.a_slot_is_placed_again_once_its_claims_are_returned.Given as goal
+use Rattle.ipe_gate_tests.proofs.tests.a_slot_is_placed_again_once_its_claims_are_returned.Given as goal
 
 abbrev pub invariant-loop : goal.invariant-loop
 invariant-loop g l =

@@ -1,7 +1,7 @@
 ghost use Rattle.std.specs.Prelude.{◌≡◌, ◌∷◌, [], IfSome};
 ghost use Rattle.ipe_gate.specs.Seats.{admin_gate, gate_of, passes_made};
 
-use crate::{Claimed, Closed, GateAdmin, Old, Pass, Slot, start};
+use ipe_gate::{Claimed, Closed, GateAdmin, Old, Pass, Slot, start};
 use ipe_image::{Image, compile};
 use ipe_policy::{Action, Name, Policy, Statement, Statements, Version};
 use std::alloc::Global;

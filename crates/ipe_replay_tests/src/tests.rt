@@ -1,6 +1,6 @@
-use super::*;
 use blk_device::{ImageDevices, NamedBytes};
 use ipe_objects::load_images;
+use ipe_replay::*;
 use ipe_requests::parse_requests;
 use ipe_transcript::print_transcript;
 use std::test::Fail;
