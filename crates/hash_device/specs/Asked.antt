@@ -1,8 +1,8 @@
 -- What the program's arguments ask of it.
 use Rattle.std.specs.Prelude.{ℕ, List, [], ◌∷◌, Option, None}
-use Rattle.ipe_program.specs.Asked.{tree_by}
-use Rattle.ipe_program.specs.declared.asked.Task.{Task}
-use Rattle.ipe_program.specs.declared.asked.TreePart.TheVariants.{HashBlocks}
+use Rattle.ipe_tasks.specs.Asked.{tree_by}
+use Rattle.ipe_tasks.specs.declared.task.Task.{Task}
+use Rattle.ipe_tasks.specs.declared.tree.TreePart.TheVariants.{HashBlocks}
 
 -- hash blocks are asked for by three arguments: the size of a block, the salt and the device
 abbrev pub asked_by : List (List ℕ) → Option Task

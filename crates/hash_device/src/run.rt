@@ -1,7 +1,7 @@
 ghost use Rattle.std.specs.Prelude.{◌≡◌, ◌≢◌, IfOk, IfSome, None, OnErr, map, string_bytes};
 ghost use Rattle.std.specs.Option.{option_map};
 ghost use Rattle.hash_device.specs.Asked.{asked_by};
-ghost use Rattle.ipe_program.specs.Asked.{HasTaskRule};
+ghost use Rattle.ipe_tasks.specs.Asked.{HasTaskRule};
 ghost use Rattle.ipe_program.specs.Shell.{Runs, handed, no_gate};
 ghost use Rattle.ipe_program.specs.declared.asked.Asked.TheVariants.{Alone};
 

@@ -9,18 +9,18 @@ use Rattle.dmv_tree.specs.Blocks.{AreBlocks, AreNoBlocks}
 use Rattle.ipe_objects.specs.Loading.{first_refusal}
 use Rattle.ipe_requests.specs.Requests.{Script}
 use Rattle.ipe_program.specs.Table.{AreAccepted, Fits, IsTooLong, row, HasText, IsAnswer, input_for}
-use Rattle.ipe_program.specs.Tree.{HasImage, IsRefusedFor}
+use Rattle.ipe_tasks.specs.Tree.{HasImage, IsRefusedFor}
 use Rattle.ipe_program.specs.declared.answers.Answer.{Answer}
 use Rattle.ipe_program.specs.declared.answers.Unanswered.{Unanswered}
 use Rattle.ipe_program.specs.declared.answers.Unanswered.TheVariants as without
 use Rattle.ipe_program.specs.declared.asked.Asked.{Asked}
 use Rattle.ipe_program.specs.declared.asked.Asked.TheVariants.{Replay, Alone}
-use Rattle.ipe_program.specs.declared.asked.FileTree.{FileTree}
-use Rattle.ipe_program.specs.declared.asked.ImageTree.{ImageTree}
-use Rattle.ipe_program.specs.declared.tree.Refusal.{Refusal}
-use Rattle.ipe_program.specs.declared.tree.Refusal.TheVariants.{Missing, TooLarge, BadSize}
-use Rattle.ipe_program.specs.declared.asked.Task.{Task}
-use Rattle.ipe_program.specs.declared.asked.Task.TheVariants.{Lint, Measure, Tree}
+use Rattle.ipe_tasks.specs.declared.file_digest.FileTree.{FileTree}
+use Rattle.ipe_tasks.specs.declared.tree.ImageTree.{ImageTree}
+use Rattle.ipe_tasks.specs.declared.tree.Refusal.{Refusal}
+use Rattle.ipe_tasks.specs.declared.tree.Refusal.TheVariants.{Missing, TooLarge, BadSize}
+use Rattle.ipe_tasks.specs.declared.task.Task.{Task}
+use Rattle.ipe_tasks.specs.declared.task.Task.TheVariants.{Lint, Measure, Tree}
 use Rattle.ipe_words.specs.declared.status.Status.{Status}
 use Rattle.ipe_words.specs.declared.status.Status.TheVariants as ends
 

@@ -2,6 +2,10 @@
 use Rattle.std.specs.Prelude.{◌≡◌, ℕ, ◌<◌, ◌≤◌, false, List, [], length, Option, Some, None, IfSome, Result, Ok, Err, IfOk, IsErrOf, ◌⊎◌}
 use Rattle.blk_device.specs.Contents.{Contents}
 use Rattle.ipe_gate.specs.declared.meeting.Closed.{Closed}
+use Rattle.ipe_tasks.specs.declared.told.Told.{Told}
+use Rattle.ipe_tasks.specs.declared.told.Told.TheVariants as told
+use Rattle.ipe_tasks.specs.declared.tree.TreeError.{TreeError}
+use Rattle.ipe_tasks.specs.declared.tree.TreeError.TheVariants as tree_error
 use Rattle.ipe_program.specs.declared.answers.Answer.{Answer}
 use Rattle.ipe_program.specs.declared.answers.Unanswered.{Unanswered}
 use Rattle.ipe_program.specs.declared.answers.Unanswered.TheVariants as without
@@ -12,6 +16,16 @@ use Rattle.ipe_words.specs.Sink.{Appends, AppendsPrefix}
 use Rattle.ipe_words.specs.Source.{TakesAll}
 use Rattle.ipe_words.specs.declared.status.Status.{Status}
 use Rattle.ipe_words.specs.declared.status.Status.TheVariants as ends
+
+-- an answer that tells this, with its status and no gate
+abbrev pub answer_of : Told → Answer
+answer_of (told.Done text) = record { text = text; status = ends.Done; closed = None }
+answer_of (told.Refused text) = record { text = text; status = ends.Refused; closed = None }
+
+-- why there is no answer where nothing is told of a tree
+abbrev pub without_tree : TreeError → Unanswered
+without_tree tree_error.Failed = without.DeviceFault
+without_tree tree_error.NoMemory = without.NoMemory
 
 -- the source was read to its end, where that is wanted, and this is what it held, within the limit
 abbrev pub IsInput : Option ℕ → Option (List ℕ) → Option (List ℕ) → List ℕ → Type 0

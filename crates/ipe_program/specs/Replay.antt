@@ -17,7 +17,7 @@ use Rattle.ipe_lines.specs.Spelled.{numbers_of, spelled}
 use Rattle.ipe_lines.specs.Told.{TellInOrder}
 use Rattle.ipe_transcript.specs.declared.transcript.Entry.{Entry}
 use Rattle.ipe_transcript.specs.Text.{transcript_text}
-use Rattle.ipe_program.specs.Refusals.{bad_line_text, device_text}
+use Rattle.ipe_tasks.specs.Refusals.{bad_line_text, device_text}
 
 -- the devices have these images, each as large as it needs to be; the text is a transcript of the request file's lines in
 -- an order that keeps each one's lines in that one's order, with each entry in its place, as the machine replies along

@@ -2,15 +2,15 @@
 use Rattle.std.specs.Prelude.{⊤, ◌≡◌, ℕ, ◌<◌, ◌≤◌, Bool, true, false, codes, List, [], length, Ok, Option, Some, None, IfSome, IsSomeAnd, ◌⊎◌}
 use Rattle.blk_device.specs.Contents.{Contents}
 use Rattle.ipe_gate.specs.declared.meeting.Closed.{Closed}
-use Rattle.ipe_program.specs.declared.asked.Task.TheVariants.{Lint, Measure, Tree}
+use Rattle.ipe_tasks.specs.declared.task.Task.TheVariants.{Lint, Measure, Tree}
 use Rattle.ipe_program.specs.declared.asked.Asked.{Asked}
 use Rattle.ipe_program.specs.declared.asked.Asked.TheVariants.{Replay, Alone}
 use Rattle.ipe_parse.specs.Reading.{reading}
 use Rattle.ipe_policy.specs.Policy.{PolicyParts}
-use Rattle.ipe_program.specs.Lint.{IsLinted, IsFaulty}
-use Rattle.ipe_program.specs.Measure.{measure_text}
+use Rattle.ipe_tasks.specs.Lint.{IsLinted, IsFaulty}
+use Rattle.ipe_tasks.specs.Measure.{measure_text}
 use Rattle.ipe_program.specs.Replay.{IsAccepted, IsReplay, IsReplayRefusal}
-use Rattle.ipe_program.specs.Tree.{HasImage, IsOfTree, IsTreeRefusal}
+use Rattle.ipe_tasks.specs.Tree.{HasImage, IsOfTree, IsTreeRefusal}
 use Rattle.ipe_words.specs.declared.status.Status.{Status}
 use Rattle.ipe_words.specs.declared.status.Status.TheVariants as ends
 use Rattle.line_words.specs.Lines.{line_text}

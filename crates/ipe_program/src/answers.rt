@@ -1,14 +1,13 @@
 ghost use Rattle.std.specs.Prelude.{◌≡◌, IfOk, IsErrOf, None, Some, false};
-ghost use Rattle.ipe_program.specs.Asked.{HasTaskRule};
+ghost use Rattle.ipe_program.specs.Answers.{answer_of};
+ghost use Rattle.ipe_tasks.specs.Asked.{HasTaskRule};
 ghost use Rattle.ipe_program.specs.Table.{Fits, HasText, IsAnswer, row};
 ghost use Rattle.ipe_program.specs.declared.asked.Asked.{Asked};
 ghost use Rattle.ipe_words.specs.Count.{Rose};
 
-use crate::file_digest::measured;
-use crate::linter::linted;
-use crate::tree::tree_told;
-use crate::{Closed, Task};
+use crate::Closed;
 use blk_device::Devices;
+use ipe_tasks::{Task, Told, TreeError, linted, measured, tree_told};
 use ipe_words::Status;
 use std::alloc::{AllocError, Global};
 
@@ -21,7 +20,7 @@ pub(crate) struct Answer {
 }
 
 impl Answer {
-    pub(crate) fn done(text: Vec<u8>) -> Self
+    fn done(text: Vec<u8>) -> Self
         ensures { result ≡ record { text = text; status = Status.Done; closed = None } }
     {
         let status = Status::Done;
@@ -30,6 +29,16 @@ impl Answer {
             text,
             status,
             closed,
+        }
+    }
+
+    /// The answer that tells this.
+    fn of(told: Told) -> Self
+        ensures { result ≡ answer_of told }
+    {
+        match told {
+            Told::Done(text) => Answer::done(text),
+            Told::Refused(text) => Answer::refused(text),
         }
     }
 
@@ -78,6 +87,31 @@ impl From<AllocError> for Unanswered {
     }
 }
 
+impl From<TreeError> for Unanswered {
+    ghost use Rattle.std.specs.Prelude.{◌≡◌};
+    ghost use Rattle.ipe_program.specs.Answers.{without_tree};
+
+    ghost from_gives = { λ error e. e ≡ without_tree error };
+
+    fn from(error: TreeError) -> Self {
+        match error {
+            TreeError::Failed => Unanswered::DeviceFault,
+            TreeError::NoMemory => Unanswered::NoMemory,
+        }
+    }
+}
+
+/// The most bytes that are read for a task, if any are.
+pub(crate) fn most_input(task: &Task) -> Option<u64>
+    ensures { result ≡ (row (Asked.Alone task.now)).most_input }
+{
+    match task {
+        Task::Lint => Some(1_048_576),
+        Task::Measure(_) => Some(16_777_216),
+        Task::Tree(..) => None,
+    }
+}
+
 /// The answer to a task, by the input that was read for it and the devices.
 pub(crate) fn answer_to<D: Devices>(
     alloc: Global,
@@ -97,8 +131,8 @@ pub(crate) fn answer_to<D: Devices>(
     ensures contents_stay { D.contents devices.new ≡ D.contents devices.old }
 {
     match task {
-        Task::Lint => Ok(linted(alloc, input)?),
-        Task::Measure(tree) => Ok(measured(alloc, tree, input)?),
-        Task::Tree(part, tree) => tree_told(alloc, *part, tree, devices),
+        Task::Lint => Ok(Answer::of(linted(alloc, input)?)),
+        Task::Measure(tree) => Ok(Answer::done(measured(alloc, tree, input)?)),
+        Task::Tree(part, tree) => Ok(Answer::of(tree_told(alloc, *part, tree, devices)?)),
     }
 }

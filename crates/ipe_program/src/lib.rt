@@ -13,18 +13,14 @@
 mod answers;
 mod asked;
 mod edge;
-mod file_digest;
-mod linter;
-mod refusals;
 mod replay;
 mod shell;
-mod tree;
 
-pub use asked::{Asked, FileTree, ImageTree, Task, TreePart, tree_by};
+pub use asked::Asked;
 pub use edge::arguments;
 pub use ipe_replay::{Closed, NoPace, Pace, Pass};
+pub use ipe_tasks::{FileTree, ImageTree, Refusal, Task, TreePart, tree_by};
 pub use shell::{lint, measure, root, run, serve, serve_alone};
-pub use tree::Refusal;
 
 #[cfg(test)]
 mod tests;

@@ -13,7 +13,6 @@ ghost use Rattle.ipe_program.specs.Table.{ByStatus, HasText};
 ghost use Rattle.ipe_words.specs.declared.status.Status.{Status};
 
 use crate::answers::{Answer, Unanswered};
-use crate::refusals::{bad_line, device_line};
 use crate::{Closed, Pace};
 use blk_device::Devices;
 use ipe_lines::transcripts_spell_their_order;
@@ -23,6 +22,7 @@ use ipe_requests::{
     Requests, ScriptError, ScriptKind, bytes_are_requests_or_have_a_first_bad_line, parse_requests,
     requests_are_read_of_their_spelling,
 };
+use ipe_tasks::{bad_line, device_line};
 use ipe_transcript::print_transcript;
 use std::alloc::{AllocError, Global};
 use std::sync::Wait;

@@ -2,10 +2,11 @@ ghost use Rattle.std.specs.Prelude.{◌≡◌, codes, IfNone, IfOk, IfSome, IsEr
 ghost use Rattle.line_words.specs.Lines.{line_text};
 ghost use Rattle.ipe_words.specs.Count.{Rose};
 ghost use Rattle.ipe_program.specs.Answers.{Ends, IsAbove, IsAnswered, IsInput, IsWritten, status_of};
-ghost use Rattle.ipe_program.specs.Asked.{HasRule, HasTaskRule, asked_by};
+ghost use Rattle.ipe_program.specs.Asked.{HasRule, asked_by};
+ghost use Rattle.ipe_tasks.specs.Asked.{HasTaskRule};
 ghost use Rattle.ipe_program.specs.Shell.{Runs, Serves, handed, no_gate, nothing};
 
-use crate::answers::{Answer, Unanswered, answer_to};
+use crate::answers::{Answer, Unanswered, answer_to, most_input};
 use crate::asked::asked_by;
 use crate::replay::{MOST_REQUESTS, replayed};
 use crate::{Asked, Closed, Pace, Task, TreePart};
@@ -178,7 +179,7 @@ fn answer_alone<S: Source, D: Devices>(
     ensures { IsAnswered (Asked.Alone task.now) result (handed S.remaining S.faults source.old source.new)
         (handed D.contents D.faults devices.old devices.new) }
 {
-    match read_input(alloc, task.most_input(), source)? {
+    match read_input(alloc, most_input(task), source)? {
         Some(input) => answer_to(alloc, task, &input, devices),
         None => too_long(alloc),
     }

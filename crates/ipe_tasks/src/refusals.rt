@@ -1,10 +1,10 @@
 ghost use Rattle.std.specs.Prelude.{◌≡◌, IfOk};
-ghost use Rattle.ipe_program.specs.Refusals.{bad_line_text, device_text};
+ghost use Rattle.ipe_tasks.specs.Refusals.{bad_line_text, device_text};
 
 use std::alloc::{AllocError, Global};
 
-// The line that refuses a line of the input for what has this name.
-pub(crate) fn bad_line(alloc: Global, line: u32, name: &str) -> Result<Vec<u8>, AllocError>
+/// The line that refuses a line of the input for what has this name.
+pub fn bad_line(alloc: Global, line: u32, name: &str) -> Result<Vec<u8>, AllocError>
     ensures { IfOk result (λ text. text.items ≡ bad_line_text line name.now) }
 {
     let mut text = format!(in alloc; "refused line {line}: ")?;
@@ -13,8 +13,8 @@ pub(crate) fn bad_line(alloc: Global, line: u32, name: &str) -> Result<Vec<u8>, 
     Ok(text.into_bytes())
 }
 
-// The line that refuses a device.
-pub(crate) fn device_line(alloc: Global, device: &[u8], why: &str) -> Result<Vec<u8>, AllocError>
+/// The line that refuses a device.
+pub fn device_line(alloc: Global, device: &[u8], why: &str) -> Result<Vec<u8>, AllocError>
     ensures { IfOk result (λ text. text.items ≡ device_text device.now why.now) }
 {
     let mut text = b"refused: device ".to_vec(alloc)?;

@@ -4,9 +4,9 @@ use Rattle.hash_tree.specs.Chunks.{chunks}
 use Rattle.hash_tree.specs.Hash.{sha256_hash}
 use Rattle.hash_tree.specs.Tree.{root}
 use Rattle.dmv_tree.specs.Tree.{RootAndBytes}
-use Rattle.ipe_program.specs.Tree.{root_line, tree_text}
-use Rattle.ipe_program.specs.declared.asked.TreePart.{TreePart}
-use Rattle.ipe_program.proofs.tree.tree_text.Goals as goal
+use Rattle.ipe_tasks.specs.Tree.{root_line, tree_text}
+use Rattle.ipe_tasks.specs.declared.tree.TreePart.{TreePart}
+use Rattle.ipe_tasks.proofs.tree.tree_text.Goals as goal
 
 -- equal parts are told by equal lines
 same_line : (one other : List ℕ) (L M count number : ℕ) → one ≡ other → L ≡ M → count ≡ number →

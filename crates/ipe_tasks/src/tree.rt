@@ -1,21 +1,34 @@
 ghost use Rattle.std.specs.Prelude.{◌≡◌, ◌≢◌, ◌<◌, ◌≤◌, length, IfErr, IfNone, IfOk, IfSome, IsErrOf, IsTrue, None, Some, string_bytes};
 ghost use Rattle.ipe_words.specs.Count.{Rose};
 ghost use Rattle.dmv_tree.specs.Blocks.{AreBlocks, AreNoBlocks, is_block_size};
-ghost use Rattle.ipe_program.specs.Asked.{HasTaskRule};
-ghost use Rattle.ipe_program.specs.Tree.{HasImage, IsOfTree, IsRefusedFor, IsTreeRefusal};
-ghost use Rattle.ipe_program.specs.Tree.{refusal_words, root_line, shape_text, tree_text};
-ghost use Rattle.ipe_program.specs.Table.{ByStatus, HasText};
-ghost use Rattle.ipe_program.specs.declared.asked.Task.{Task};
+ghost use Rattle.ipe_tasks.specs.Tree.{HasImage, IsOfTree, IsRefusedFor, IsTreeRefusal};
+ghost use Rattle.ipe_tasks.specs.Tree.{refusal_words, root_line, shape_text, tree_text};
+ghost use Rattle.ipe_tasks.specs.Told.{IsTold};
 
-use crate::answers::{Answer, Unanswered};
+use crate::Told;
 use crate::refusals::device_line;
-use crate::{ImageTree, TreePart};
 use blk_device::{DevError, Devices, ReadDeviceError, read_device};
 use dmv_tree::{Shape, are_blocks, build, layout};
+use line_words::Bytes;
 use std::alloc::{AllocError, Global};
 
 /// The most bytes of a device.
 const MOST_DEVICE: u64 = 16_777_216;
+
+/// A hash tree over the image of a device: how many bytes a block has, the salt, and the device's name.
+#[derive(Debug, Drop)]
+pub struct ImageTree {
+    pub block_size: u32,
+    pub salt: Bytes,
+    pub device: Bytes,
+}
+
+/// What is told of a hash tree: its root and shape, or its hash blocks as they are stored on a hash device.
+#[derive(Clone, Copy, Debug, PartialEq, Eq)]
+pub enum TreePart {
+    Root,
+    HashBlocks,
+}
 
 /// Why a device is refused.
 #[derive(Clone, Copy, Debug, PartialEq, Eq)]
@@ -28,29 +41,45 @@ pub enum Refusal {
     BadSize,
 }
 
+/// Why nothing is told of a tree.
+#[derive(Clone, Copy, Debug, PartialEq, Eq)]
+pub enum TreeError {
+    /// The device failed.
+    Failed,
+    NoMemory,
+}
+
+impl From<AllocError> for TreeError {
+    ghost use Rattle.std.specs.Prelude.{◌≡◌};
+    ghost use Rattle.ipe_tasks.specs.declared.tree.TreeError.TheVariants.{NoMemory};
+
+    ghost from_gives = { λ _ e. e ≡ NoMemory };
+
+    fn from(_: AllocError) -> Self {
+        TreeError::NoMemory
+    }
+}
+
 /// What is told of the hash tree over a device's image, or why the device is refused.
-pub(crate) fn tree_told<D: Devices>(
+pub fn tree_told<D: Devices>(
     alloc: Global,
     part: TreePart,
     tree: &ImageTree,
     devices: &mut D,
-) -> Result<Answer, Unanswered>
-    requires { HasTaskRule (Task.Tree part tree.now) }
-    ensures answer { IfOk result (λ answer. IfSome (D.contents devices.old) (λ items.
-        ByStatus (IsOfTree part items tree.now answer.text.items) (IsTreeRefusal items tree.now answer.text.items)
-        answer.status)) }
-    ensures status { IfOk result (λ answer. HasText answer.status) }
-    ensures no_gate { IfOk result (λ answer. answer.closed ≡ None) }
-    ensures unread { IsErrOf result Unanswered.ReadFault → ⊥ }
-    ensures failed { IsErrOf result Unanswered.DeviceFault → Rose (D.faults devices.old) (D.faults devices.new) }
+) -> Result<Told, TreeError>
+    requires size { IsTrue (is_block_size tree.now.block_size) }
+    requires salt { length tree.now.salt ≤ 256 }
+    ensures told { IfOk result (λ told. IfSome (D.contents devices.old) (λ items.
+        IsTold (IsOfTree part items tree.now) (IsTreeRefusal items tree.now) told)) }
+    ensures failed { IsErrOf result TreeError.Failed → Rose (D.faults devices.old) (D.faults devices.new) }
     ensures same { D.contents devices.new ≡ D.contents devices.old }
 {
     match read_image(alloc, tree, devices)? {
-        Ok(image) => Ok(Answer::done(tree_text(alloc, part, tree, &image)?)),
+        Ok(image) => Ok(Told::Done(tree_text(alloc, part, tree, &image)?)),
         Err(refusal) => {
             let device = tree.device.as_slice();
             let why = words_of(refusal);
-            Ok(Answer::refused(device_line(alloc, device, why)?))
+            Ok(Told::Refused(device_line(alloc, device, why)?))
         }
     }
 }
@@ -60,21 +89,20 @@ fn read_image<D: Devices>(
     alloc: Global,
     tree: &ImageTree,
     devices: &mut D,
-) -> Result<Result<Vec<u8>, Refusal>, Unanswered>
+) -> Result<Result<Vec<u8>, Refusal>, TreeError>
     requires { IsTrue (is_block_size tree.now.block_size) }
     ensures image { IfOk result (λ read. IfOk read (λ image. IfSome (D.contents devices.old) (λ items.
         HasImage items tree.now image.items))) }
     ensures blocks { IfOk result (λ read. IfOk read (λ image. AreBlocks (length image.items) tree.now.block_size)) }
     ensures refused { IfOk result (λ read. IfErr read (λ refusal. IfSome (D.contents devices.old) (λ items.
         IsRefusedFor items tree.now refusal))) }
-    ensures unread { IsErrOf result Unanswered.ReadFault → ⊥ }
-    ensures failed { IsErrOf result Unanswered.DeviceFault → Rose (D.faults devices.old) (D.faults devices.new) }
+    ensures failed { IsErrOf result TreeError.Failed → Rose (D.faults devices.old) (D.faults devices.new) }
     ensures same { D.contents devices.new ≡ D.contents devices.old }
 {
     let device = tree.device.as_slice();
     let size = match devices.size(device) {
         Ok(size) => size,
-        Err(DevError::Failed) => return Err(Unanswered::DeviceFault),
+        Err(DevError::Failed) => return Err(TreeError::Failed),
         Err(DevError::Missing) => return Ok(Err(Refusal::Missing)),
     };
     if let Some(refusal) = refused_size(size, tree.block_size) {
@@ -82,9 +110,9 @@ fn read_image<D: Devices>(
     }
     match read_device(alloc, devices, device, size) {
         Ok(image) => Ok(Ok(image)),
-        Err(ReadDeviceError::Failed) => Err(Unanswered::DeviceFault),
+        Err(ReadDeviceError::Failed) => Err(TreeError::Failed),
         Err(ReadDeviceError::Missing) => Ok(Err(Refusal::Missing)),
-        Err(ReadDeviceError::NoMemory) => Err(Unanswered::NoMemory),
+        Err(ReadDeviceError::NoMemory) => Err(TreeError::NoMemory),
     }
 }
 

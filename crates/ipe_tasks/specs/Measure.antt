@@ -2,7 +2,7 @@
 use Rattle.std.specs.Prelude.{ℕ, codes, List, ◌++◌}
 use Rattle.hex.specs.Hex.{encode_lower}
 use Rattle.fsv_tree.specs.File.{described, file_digest}
-use Rattle.ipe_program.specs.declared.asked.FileTree.{FileTree}
+use Rattle.ipe_tasks.specs.declared.file_digest.FileTree.{FileTree}
 use Rattle.line_words.specs.Lines.{line_text}
 
 -- the line of a digest, in lower case digits

@@ -13,7 +13,7 @@ use Rattle.ipe_parse.specs.declared.error.BadText.{BadText}
 use Rattle.ipe_parse.specs.declared.error.BadText.TheVariants.{Bad, NoDefault}
 use Rattle.ipe_parse.specs.Reading.{reading}
 use Rattle.line_words.specs.Lines.{line_text}
-use Rattle.ipe_program.specs.Refusals.{bad_line_text}
+use Rattle.ipe_tasks.specs.Refusals.{bad_line_text}
 
 -- a policy's name, version, number of rules and number of 64-bit words of its image
 abbrev pub lint_text : PolicyParts → List ℕ

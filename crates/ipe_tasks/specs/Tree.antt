@@ -9,12 +9,12 @@ use Rattle.hash_tree.specs.Hash.{sha256_hash}
 use Rattle.hash_tree.specs.Shape.{height, tree_blocks}
 use Rattle.hash_tree.specs.Tree.{fan_out, root, stored}
 use Rattle.line_words.specs.Lines.{line_text}
-use Rattle.ipe_program.specs.Refusals.{device_text}
-use Rattle.ipe_program.specs.declared.asked.ImageTree.{ImageTree}
-use Rattle.ipe_program.specs.declared.asked.TreePart.{TreePart}
-use Rattle.ipe_program.specs.declared.asked.TreePart.TheVariants.{Root, HashBlocks}
-use Rattle.ipe_program.specs.declared.tree.Refusal.{Refusal}
-use Rattle.ipe_program.specs.declared.tree.Refusal.TheVariants.{Missing, TooLarge, BadSize}
+use Rattle.ipe_tasks.specs.Refusals.{device_text}
+use Rattle.ipe_tasks.specs.declared.tree.ImageTree.{ImageTree}
+use Rattle.ipe_tasks.specs.declared.tree.TreePart.{TreePart}
+use Rattle.ipe_tasks.specs.declared.tree.TreePart.TheVariants.{Root, HashBlocks}
+use Rattle.ipe_tasks.specs.declared.tree.Refusal.{Refusal}
+use Rattle.ipe_tasks.specs.declared.tree.Refusal.TheVariants.{Missing, TooLarge, BadSize}
 
 -- the most bytes of a device
 abbrev pub most_device : ℕ

@@ -1,28 +1,26 @@
-ghost use Rattle.std.specs.Prelude.{◌≡◌, ◌≤◌, ◌++◌, length, codes, IfOk, None};
+ghost use Rattle.std.specs.Prelude.{◌≡◌, ◌≤◌, ◌++◌, length, codes, IfOk};
 ghost use Rattle.line_words.specs.Lines.{line_text};
-ghost use Rattle.ipe_program.specs.Lint.{IsFaulty, IsLinted, kind_name, lint_text};
-ghost use Rattle.ipe_program.specs.Table.{ByStatus};
+ghost use Rattle.ipe_tasks.specs.Lint.{IsFaulty, IsLinted, kind_name, lint_text};
+ghost use Rattle.ipe_tasks.specs.Told.{IsTold};
 
-use crate::answers::Answer;
+use crate::Told;
 use crate::refusals::bad_line;
 use ipe_parse::{BadKind, ParseError, parse};
 use ipe_policy::{Policy, image_words, rule_count};
 use std::alloc::{AllocError, Global};
 
 /// The line that tells the policy that a text reads as, or its first fault.
-pub(crate) fn linted(alloc: Global, input: &[u8]) -> Result<Answer, AllocError>
+pub fn linted(alloc: Global, input: &[u8]) -> Result<Told, AllocError>
     requires { length input.now ≤ 1048576 }
-    ensures answer { IfOk result (λ answer.
-        ByStatus (IsLinted input.now answer.text.items) (IsFaulty input.now answer.text.items) answer.status) }
-    ensures no_gate { IfOk result (λ answer. answer.closed ≡ None) }
+    ensures { IfOk result (λ told. IsTold (IsLinted input.now) (IsFaulty input.now) told) }
 {
     match parse(alloc, input) {
-        Ok(policy) => Ok(Answer::done(ok_line(alloc, &policy)?)),
+        Ok(policy) => Ok(Told::Done(ok_line(alloc, &policy)?)),
         Err(ParseError::Bad { line, kind }) => {
-            Ok(Answer::refused(bad_line(alloc, line, name_of(kind))?))
+            Ok(Told::Refused(bad_line(alloc, line, name_of(kind))?))
         }
         Err(ParseError::NoDefault { missing }) => {
-            Ok(Answer::refused(no_default_line(alloc, missing.word())?))
+            Ok(Told::Refused(no_default_line(alloc, missing.word())?))
         }
         Err(ParseError::NoMemory) => Err(AllocError),
     }
