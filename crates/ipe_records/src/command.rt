@@ -80,8 +80,8 @@ fn activation_record(
     activation_line(alloc, old.as_ref(), &brief_of(entry)?)
 }
 
-// What records tell of the policy that is active.
-fn active_brief(registry: &Registry) -> Result<Option<Brief>, AllocError>
+/// What records tell of the policy that is active.
+pub fn active_brief(registry: &Registry) -> Result<Option<Brief>, AllocError>
     ensures { IfOk result (λ brief. brief ≡ option_map brief_of (active_entry registry.now)) }
 {
     match registry.active_entry() {
