@@ -1,0 +1,14 @@
+mod Each
+mod Drawn
+mod Texts
+mod Says
+mod SaysWords
+mod Stages
+mod Facts
+mod Numbers
+mod Policies
+mod Files
+mod Sizes
+mod Commands
+mod Hooks
+mod Whole
