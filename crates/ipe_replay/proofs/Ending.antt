@@ -29,6 +29,7 @@ use Rattle.ipe_weave.specs.Gate.{gate_basis}
 use Rattle.ipe_weave.specs.Lines.{Acted, Line, actor_of}
 use Rattle.ipe_weave.specs.Phases.{PhasesRan}
 use Rattle.ipe_weave.specs.Seats.{Closes, PhasesDone}
+use Rattle.ipe_weave.specs.Standing.{policies_then}
 use Rattle.ipe_lines.specs.Asked.{line_of, lines_of, verdicts_of}
 use Rattle.ipe_workers.specs.declared.worker.Worker.{Worker}
 use Rattle.ipe_workers.specs.Beside.{AllReady}
@@ -37,7 +38,9 @@ use Rattle.ipe_workers.specs.Phases.{AreLevel}
 use Rattle.ipe_workers.specs.Prepared.{files_in}
 use Rattle.ipe_workers.specs.Workers.{pass_of}
 use Rattle.ipe_workers.proofs.Phasing.{none_below}
+use Rattle.ipe_replay.specs.Ends.{commands_in, last_policies}
 use Rattle.ipe_replay.specs.Phases.{HavePhases, IsWholeRun, asked_in}
+use Rattle.ipe_replay.proofs.Ends.{through_own}
 use Rattle.ipe_replay.proofs.Running.{each_at, within}
 
 -- what passes a test is no more than there is
@@ -179,6 +182,30 @@ module _ (objects : Ready) (images : Contents) (workers : ℕ) where
           at_is : (k : ℕ) (inside : k < length vs) → at k inside ≡ get_or vs k (at k inside)
           at_is k inside = (one vs k inside).1
 
+  -- all phases are done, where the gate is closed
+  phases_done : (admin : Admin) (passes : List Pass) (phases : List Phase) (last : Admin) (ws vs : List Worker) (entries : List Entry) (closed : Closed)
+      → (all : Ran admin passes phases last ws vs entries) → IsClosing (gate_in last) (map pass_of vs) closed
+      → PhasesDone (gate_basis (verdicts_of objects.script)) (length ws) (policies_in admin) [] all.ran.now (map (asked_in objects images) phases) all.ran.acted
+  phases_done admin passes phases last ws vs entries closed all closing =
+      let shut = closes admin passes phases last ws vs entries closed all closing in
+      let long : length ws ≡ workers = new_long admin passes ws all.first all.made in
+      let many : passes_made (gate_in last) ≡ length ws = all.ran.same.passes ∙ all.first.gate.made ∙ sym long in
+      all.ran.done
+      (below_before (length ws) shut.later.0 all.ran.now (subst (PassesBelow (length ws)) shut.later.1
+      (subst (λ (n : ℕ). PassesBelow n (history closed)) many closing.below)))
+
+  -- the policies then are those after the administrator's lines alone
+  pub ends : (admin : Admin) (passes : List Pass) (phases : List Phase) (last : Admin) (ws vs : List Worker) (entries : List Entry) (closed : Closed)
+      → (all : Ran admin passes phases last ws vs entries) → IsClosing (gate_in last) (map pass_of vs) closed
+      → objects.script.phases ≡ phases → policies_in last ≡ last_policies objects.script (files_in objects images)
+  ends admin passes phases last ws vs entries closed all closing phases_are =
+      let v : Verdicts = verdicts_of objects.script in
+      all.ran.policies
+      ∙ through_own (gate_basis v) (length ws) (policies_in admin) [] all.ran.now (map (asked_in objects images) phases) all.ran.acted
+      (phases_done admin passes phases last ws vs entries closed all closing)
+      ∙ ap (λ (p : Policies). policies_then v p (commands_in (map (asked_in objects images) phases))) all.first.policies
+      ∙ ap (λ (ps : List Phase). policies_then v first_policies (commands_in (map (asked_in objects images) ps))) (sym phases_are)
+
   -- so all phases ran up to the whole history
   pub whole_run : ((v : Verdicts) (workers : ℕ) (policies : Policies) (before now whole : List Event) (script : List (List Line)) (phases : List (List Acted))
       → PhasesDone (gate_basis v) workers policies before now script phases → Closes now whole → PhasesRan (gate_basis v) workers policies before whole script phases)
@@ -189,11 +216,8 @@ module _ (objects : Ready) (images : Contents) (workers : ℕ) where
       let v : Verdicts = verdicts_of objects.script in
       let shut = closes admin passes phases last ws vs entries closed all closing in
       let long : length ws ≡ workers = new_long admin passes ws all.first all.made in
-      let many : passes_made (gate_in last) ≡ length ws = all.ran.same.passes ∙ all.first.gate.made ∙ sym long in
-      let below : PassesBelow (length ws) all.ran.now =
-      below_before (length ws) shut.later.0 all.ran.now (subst (PassesBelow (length ws)) shut.later.1
-      (subst (λ (n : ℕ). PassesBelow n (history closed)) many closing.below)) in
-      let done = law v (length ws) (policies_in admin) [] all.ran.now (history closed) (map (asked_in objects images) phases) all.ran.acted (all.ran.done below) shut in
+      let all_done = phases_done admin passes phases last ws vs entries closed all closing in
+      let done = law v (length ws) (policies_in admin) [] all.ran.now (history closed) (map (asked_in objects images) phases) all.ran.acted all_done shut in
       record {
         acted = all.ran.acted;
         legal = closing.legal;

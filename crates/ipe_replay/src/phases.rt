@@ -3,12 +3,15 @@ ghost use Rattle.std.specs.Prelude.{◌≡◌, ◌+◌, ◌≤◌, ◌^◌, [], 
 ghost use Rattle.ipe_admin.specs.Outcomes.{gate_in, policies_in};
 ghost use Rattle.ipe_gate.specs.Meeting.{AreAllPasses, IsClosing};
 ghost use Rattle.ipe_lines.specs.Asked.{verdicts_of};
+ghost use Rattle.ipe_lines.specs.Files.{files_of};
 ghost use Rattle.ipe_workers.specs.Beside.{AllReady};
 ghost use Rattle.ipe_workers.specs.Phases.{AreLevel};
 ghost use Rattle.ipe_workers.specs.Prepared.{ArePrepared};
 ghost use Rattle.ipe_workers.specs.Workers.{pass_of};
+ghost use Rattle.ipe_replay.specs.Ends.{end_of, last_policies};
 ghost use Rattle.ipe_replay.specs.Phases.{HavePhases, IsWholeRun, MayRun, lines_in};
 
+use crate::end::End;
 use ipe_admin::Admin;
 use ipe_gate::Closed;
 use ipe_lines::numbers_of_lines_rise;
@@ -76,18 +79,20 @@ fn close(alloc: Global, admin: Admin, workers: Vec<Worker>) -> Result<Closed, Al
     Ok(admin.close(into_passes(alloc, workers)?))
 }
 
-// Runs all phases of a request file on a new gate, and closes it.
+// Runs all phases of a request file on a new gate, tells what its policies are then, and closes it.
 pub(crate) fn run_all<R: Threads + Wait + Sync, S: Signer + Sync, P: Pace>(
     rt: &R,
     pace: &P,
     setting: &Setting<'_>,
     signer: &S,
     requests: &Requests,
-) -> Result<(Entries, Closed), AllocError>
+) -> Result<(Entries, Closed, End), AllocError>
     requires requests { setting.now.objects.now.script ≡ requests.now }
     requires prepared { ArePrepared setting.now.objects.now setting.now.images.now }
     requires signer { S.verdict_of signer.now ≡ verdicts_of requests.now }
-    ensures { IfOk result (λ made. IsWholeRun setting.now.objects.now setting.now.images.now made.0 made.1) }
+    ensures whole { IfOk result (λ made. IsWholeRun setting.now.objects.now setting.now.images.now made.0 made.1) }
+    ensures end { IfOk result (λ made.
+        made.2 ≡ end_of (last_policies requests.now (files_of requests.now setting.now.images.now))) }
 {
     requests_are_read_of_their_spelling(requests);
     requests_keep_their_rules();
@@ -97,6 +102,7 @@ pub(crate) fn run_all<R: Threads + Wait + Sync, S: Signer + Sync, P: Pace>(
     let (mut admin, passes) = Admin::start(setting.alloc, requests.workers)?;
     let mut workers = make_workers(setting.alloc, setting.objects, passes)?;
     let entries = run_phases(rt, pace, setting, signer, phases, &mut admin, &mut workers)?;
+    let end = End::of(admin.registry())?;
     let closed = close(setting.alloc, admin, workers)?;
-    Ok((Entries::from_vec(entries), closed))
+    Ok((Entries::from_vec(entries), closed, end))
 }

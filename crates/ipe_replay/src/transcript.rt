@@ -5,11 +5,13 @@ ghost use Rattle.ipe_lines.specs.Files.{files_of};
 ghost use Rattle.ipe_lines.specs.Told.{TellInOrder};
 ghost use Rattle.ipe_objects.specs.Devices.{AreImages};
 ghost use Rattle.ipe_objects.specs.Ready.{Ready};
+ghost use Rattle.ipe_replay.specs.Ends.{EndsWith, last_policies};
 ghost use Rattle.ipe_replay.specs.Phases.{IsWholeRun};
 
 use crate::Pace;
 use crate::marks::signer_of;
 use crate::phases::{Setting, run_all};
+use ipe_audit::Brief;
 use ipe_gate::Closed;
 use ipe_lines::gate_run_is_told_in_order;
 use ipe_objects::{Images, Objects};
@@ -38,6 +40,18 @@ fn transcript_of(
     Transcript::order(alloc, phases, entries)
 }
 
+/// The transcript of a request file, the gate on which its lines ran, closed, and the state after its last phase: the epoch,
+/// what records tell of the active policy, and the switches.
+#[derive(Drop)]
+pub struct Replayed {
+    pub transcript: Transcript,
+    pub closed: Closed,
+    pub epoch: u16,
+    pub active: Option<Brief>,
+    pub enforce: bool,
+    pub success: bool,
+}
+
 // The same with the signer that the request file's marks are.
 fn replay_signed<R: Threads + Wait + Sync, S: Signer + Sync, P: Pace>(
     rt: &R,
@@ -46,11 +60,13 @@ fn replay_signed<R: Threads + Wait + Sync, S: Signer + Sync, P: Pace>(
     images: &Images,
     signer: &S,
     pace: &P,
-) -> Result<(Transcript, Closed), AllocError>
+) -> Result<Replayed, AllocError>
     requires images { AreImages requests.now images.now }
     requires signer { S.verdict_of signer.now ≡ verdicts_of requests.now }
-    ensures { IfOk result (λ made.
-        TellInOrder requests.now (files_of requests.now images.now) (history made.1) made.0) }
+    ensures tell { IfOk result (λ replayed. TellInOrder requests.now (files_of requests.now images.now)
+        (history replayed.closed) replayed.transcript) }
+    ensures end { IfOk result (λ replayed.
+        EndsWith (last_policies requests.now (files_of requests.now images.now)) replayed) }
 {
     let objects = Objects::build(alloc, signer, requests, images)?;
     let setting = Setting {
@@ -58,9 +74,16 @@ fn replay_signed<R: Threads + Wait + Sync, S: Signer + Sync, P: Pace>(
         objects: &objects,
         images,
     };
-    let (entries, closed) = run_all(rt, pace, &setting, signer, requests)?;
+    let (entries, closed, end) = run_all(rt, pace, &setting, signer, requests)?;
     let transcript = transcript_of(alloc, requests, images, entries, &closed)?;
-    Ok((transcript, closed))
+    Ok(Replayed {
+        transcript,
+        closed,
+        epoch: end.epoch,
+        active: end.active,
+        enforce: end.enforce,
+        success: end.success,
+    })
 }
 
 /// The transcript of a request file whose devices have these images, and the gate on which its lines ran, closed. In each
@@ -78,6 +101,25 @@ pub fn replay<R: Threads + Wait + Sync, P: Pace>(
     requires { AreImages requests.now images.now }
     ensures { IfOk result (λ made.
         TellInOrder requests.now (files_of requests.now images.now) (history made.1) made.0) }
+{
+    let replayed = replay_to_end(rt, alloc, requests, images, pace)?;
+    Ok((replayed.transcript, replayed.closed))
+}
+
+/// The same with the state after the last phase, which is that after the administrator's lines alone, whatever the workers
+/// ask beside them.
+pub fn replay_to_end<R: Threads + Wait + Sync, P: Pace>(
+    rt: &R,
+    alloc: Global,
+    requests: &Requests,
+    images: &Images,
+    pace: &P,
+) -> Result<Replayed, AllocError>
+    requires { AreImages requests.now images.now }
+    ensures tell { IfOk result (λ replayed. TellInOrder requests.now (files_of requests.now images.now)
+        (history replayed.closed) replayed.transcript) }
+    ensures end { IfOk result (λ replayed.
+        EndsWith (last_policies requests.now (files_of requests.now images.now)) replayed) }
 {
     let signer = signer_of(alloc, requests)?;
     replay_signed(rt, alloc, requests, images, &signer, pace)

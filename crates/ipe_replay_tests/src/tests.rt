@@ -62,3 +62,26 @@ fn a_transcript_has_entries_records_and_contents(rt: HostRuntime) -> Result<(), 
     assert_eq!(rt; text.as_slice(), ANSWER.as_bytes());
     Ok(())
 }
+
+// Of the transcript's lines: seven of the administrator, of which 10, 11, 14 and 16 are answered with 0, and one hook.
+#[test]
+fn a_run_comes_to_numbers(rt: HostRuntime) -> Result<(), Fail> {
+    let alloc = rt.alloc();
+    let requests = parse_requests(alloc, REQUESTS.as_bytes())?;
+    let none = NamedBytes::from_vec(Vec::new(alloc));
+    let mut devices = ImageDevices::new(&none);
+    let images = load_images(alloc, &requests, &mut devices)
+        .ok()
+        .ok_or("images")?;
+    let (mut summary, closed) = summarize(&rt, alloc, &requests, &images, &NoPace)?;
+    assert_eq!(rt; (closed.epoch, closed.count), (2, 1));
+    let line =
+        b"hooks=1 placed=1 commands=7 ok=4 epoch=2 active=a version=1.0.0 enforce=0 success_audit=0\n";
+    assert_eq!(rt; summary_line(alloc, &summary)?.as_slice(), line.as_slice());
+    summary.active = None;
+    summary.success_audit = true;
+    let line =
+        b"hooks=1 placed=1 commands=7 ok=4 epoch=2 active=? version=? enforce=0 success_audit=1\n";
+    assert_eq!(rt; summary_line(alloc, &summary)?.as_slice(), line.as_slice());
+    Ok(())
+}

@@ -6,14 +6,16 @@ use Rattle.ipe_requests.specs.Spelling.{request_text}
 use Rattle.ipe_requests.specs.declared.script.Phase.{Phase}
 use Rattle.ipe_requests.specs.declared.script.PhaseLine.{PhaseLine}
 use Rattle.ipe_lines.specs.Asked.{verdicts_of}
+use Rattle.ipe_lines.specs.Files.{files_of}
 use Rattle.ipe_transcript.specs.declared.transcript.Entry.{Entry}
 use Rattle.ipe_workers.specs.declared.worker.Worker.{Worker}
 use Rattle.ipe_workers.specs.Beside.{AllReady}
 use Rattle.ipe_workers.specs.Phases.{AreLevel}
 use Rattle.ipe_workers.specs.Prepared.{files_in}
 use Rattle.ipe_workers.specs.Workers.{pass_of}
+use Rattle.ipe_replay.specs.Ends.{end_of, last_policies}
 use Rattle.ipe_replay.specs.Phases.{HavePhases, IsWholeRun, lines_in}
-use Rattle.ipe_replay.proofs.Ending.{Ran, all_passes, new_level, new_long, new_ready, whole_run}
+use Rattle.ipe_replay.proofs.Ending.{Ran, all_passes, ends, new_level, new_long, new_ready, whole_run}
 use Rattle.ipe_replay.proofs.Few.{few-lines, few-phases}
 use Rattle.ipe_replay.proofs.Running.{may_run, whole_list}
 use Rattle.ipe_replay.proofs.phases.run_all.Goals as goal
@@ -126,7 +128,16 @@ returns g c =
     let same = c.requests.view_is ∙ sym c.requires.requests in
     let closing : IsClosing (gate_in c.run_phases.new.admin) (map pass_of vs) c.in_ok-closed.closed =
     subst (λ (us : List Worker). IsClosing (gate_in c.run_phases.new.admin) (map pass_of us) c.in_ok-closed.closed) whole c.in_ok-closed.ensures in
-    subst (λ (entries : List Entry). IsWholeRun objects images entries c.in_ok-closed.closed) (sym c.from_vec.ensures)
-    (whole_run objects images c.requests.inside.workers c.phases_meet.ensures.run c.in_ok-admin.admin c.in_ok-admin.passes.items c.as_slice-phases.result.now c.run_phases.new.admin
-    c.in_ok-workers.workers.items vs c.in_ok-entries.entries.items c.in_ok-closed.closed ran closing
-    (sym (c.as_slice-phases.ensures ∙ ap (λ (s : Script). s.phases) same)) (sym (ap (λ (s : Script). s.workers) same)))
+    record {
+      whole =
+          subst (λ (entries : List Entry). IsWholeRun objects images entries c.in_ok-closed.closed) (sym c.from_vec.ensures)
+          (whole_run objects images c.requests.inside.workers c.phases_meet.ensures.run c.in_ok-admin.admin c.in_ok-admin.passes.items c.as_slice-phases.result.now c.run_phases.new.admin
+          c.in_ok-workers.workers.items vs c.in_ok-entries.entries.items c.in_ok-closed.closed ran closing
+          (sym (c.as_slice-phases.ensures ∙ ap (λ (s : Script). s.phases) same)) (sym (ap (λ (s : Script). s.workers) same)));
+      end =
+          c.in_ok-end.ensures
+          ∙ ap end_of (c.registry.ensures ∙ ends objects images c.requests.inside.workers c.in_ok-admin.admin c.in_ok-admin.passes.items c.as_slice-phases.result.now c.run_phases.new.admin
+          c.in_ok-workers.workers.items vs c.in_ok-entries.entries.items c.in_ok-closed.closed ran closing
+          (sym (c.as_slice-phases.ensures ∙ ap (λ (s : Script). s.phases) same)))
+          ∙ ap (λ (s : Script). end_of (last_policies s (files_of s images))) c.requires.requests;
+    }

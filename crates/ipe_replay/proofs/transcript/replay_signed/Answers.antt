@@ -7,6 +7,7 @@ use Rattle.ipe_objects.specs.Ready.{Ready, context_in}
 use Rattle.blk_device.specs.Contents.{Contents}
 use Rattle.ipe_workers.specs.Prepared.{ArePrepared}
 use Rattle.ipe_lines.specs.Asked.{verdicts_of}
+use Rattle.ipe_replay.specs.declared.end.End.{End}
 use Rattle.ipe_replay.proofs.transcript.replay_signed.Goals as goal
 
 -- objects that were built of a script's lines are prepared, where the signer's verdicts are its marks
@@ -33,10 +34,18 @@ pub run_all-requires-clause-signer : goal.run_all-requires-clause-signer
 run_all-requires-clause-signer g c κs within = c.requires.signer
 
 pub transcript_of-requires : goal.transcript_of-requires
-transcript_of-requires g c = (c.in_ok-objects.objects, c.in_ok-objects.ensures.script, c.in_ok-entries.ensures)
+transcript_of-requires g c = (c.in_ok-objects.objects, c.in_ok-objects.ensures.script, c.in_ok-entries.ensures.whole)
 
 pub build-requires : goal.build-requires
 build-requires g c = c.requires.images
 
-pub returns : goal.returns
-returns g c = c.in_ok-transcript.ensures
+pub returns-clause-tell : goal.returns-clause-tell
+returns-clause-tell g c = c.in_ok-transcript.ensures
+
+pub returns-clause-end : goal.returns-clause-end
+returns-clause-end g c = record {
+  epoch = ap (λ (end : End). end.epoch) c.in_ok-entries.ensures.end;
+  active = ap (λ (end : End). end.active) c.in_ok-entries.ensures.end;
+  enforce = ap (λ (end : End). end.enforce) c.in_ok-entries.ensures.end;
+  success = ap (λ (end : End). end.success) c.in_ok-entries.ensures.end;
+}
