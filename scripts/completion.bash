@@ -7,7 +7,7 @@ _ipegate() {
         command=root
         place=$((place + 1))
     elif [ "$place" = 1 ]; then
-        mapfile -t COMPREPLY < <(compgen -W 'lint replay root measure --help --version' -- "$current")
+        mapfile -t COMPREPLY < <(compgen -W 'lint replay sim root measure --help --version' -- "$current")
         return
     fi
     case $command:$place in

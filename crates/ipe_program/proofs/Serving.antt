@@ -14,7 +14,7 @@ use Rattle.ipe_program.specs.declared.answers.Answer.{Answer}
 use Rattle.ipe_program.specs.declared.answers.Unanswered.{Unanswered}
 use Rattle.ipe_program.specs.declared.answers.Unanswered.TheVariants as without
 use Rattle.ipe_program.specs.declared.asked.Asked.{Asked}
-use Rattle.ipe_program.specs.declared.asked.Asked.TheVariants.{Replay, Alone}
+use Rattle.ipe_program.specs.declared.asked.Asked.TheVariants.{Replay, Sim, Alone}
 use Rattle.ipe_tasks.specs.declared.file_digest.FileTree.{FileTree}
 use Rattle.ipe_tasks.specs.declared.tree.ImageTree.{ImageTree}
 use Rattle.ipe_tasks.specs.declared.tree.Refusal.{Refusal}
@@ -41,6 +41,15 @@ any_gate Replay ends.ReadFault input held before text is = is
 any_gate Replay ends.WriteFault input held before text is = is
 any_gate Replay ends.DeviceFault input held before text is = is
 any_gate Replay ends.NoMemory input held before text is = is
+any_gate (Sim seed) ends.Done input held before text (inl long) = inl long
+any_gate (Sim seed) ends.Done input held before text (inr is) = let none = is.1.handed_out in absurd (cc)
+any_gate (Sim seed) ends.No input held before text is = is
+any_gate (Sim seed) ends.Usage input held before text is = is
+any_gate (Sim seed) ends.Refused input held before text is = is
+any_gate (Sim seed) ends.ReadFault input held before text is = is
+any_gate (Sim seed) ends.WriteFault input held before text is = is
+any_gate (Sim seed) ends.DeviceFault input held before text is = is
+any_gate (Sim seed) ends.NoMemory input held before text is = is
 any_gate (Alone Lint) status input held before text is = is
 any_gate (Alone (Measure tree)) status input held before text is = is
 any_gate (Alone (Tree part tree)) status input held before text is = is
@@ -89,6 +98,7 @@ not_refused Replay input (Some told) text accepted (inr refused) =
     let none : first_refusal refused.script told ≡ None =
     subst (λ (script : Script). first_refusal script told ≡ None) same accepted.loaded in
     cc
+not_refused (Sim seed) input held text accepted refused = refused
 not_refused (Alone Lint) input held text accepted faulty = let is = faulty.faulty in let reads = accepted.1 in cc
 not_refused (Alone (Measure tree)) input held text accepted refused = refused
 not_refused (Alone (Tree part tree)) input None text accepted refused = accepted

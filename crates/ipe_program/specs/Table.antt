@@ -4,12 +4,13 @@ use Rattle.blk_device.specs.Contents.{Contents}
 use Rattle.ipe_gate.specs.declared.meeting.Closed.{Closed}
 use Rattle.ipe_tasks.specs.declared.task.Task.TheVariants.{Lint, Measure, Tree}
 use Rattle.ipe_program.specs.declared.asked.Asked.{Asked}
-use Rattle.ipe_program.specs.declared.asked.Asked.TheVariants.{Replay, Alone}
+use Rattle.ipe_program.specs.declared.asked.Asked.TheVariants.{Replay, Sim, Alone}
 use Rattle.ipe_parse.specs.Reading.{reading}
 use Rattle.ipe_policy.specs.Policy.{PolicyParts}
 use Rattle.ipe_tasks.specs.Lint.{IsLinted, IsFaulty}
 use Rattle.ipe_tasks.specs.Measure.{measure_text}
 use Rattle.ipe_program.specs.Replay.{IsAccepted, IsReplay, IsReplayRefusal}
+use Rattle.ipe_program.specs.Sim.{IsSim}
 use Rattle.ipe_tasks.specs.Tree.{HasImage, IsOfTree, IsTreeRefusal}
 use Rattle.ipe_words.specs.declared.status.Status.{Status}
 use Rattle.ipe_words.specs.declared.status.Status.TheVariants as ends
@@ -36,6 +37,14 @@ row Replay = record {
   IsDone = λ input held closed text. IsReplay input held closed text;
   IsRefused = λ input held text. IsReplayRefusal input held text;
   Accepts = λ input held. IsAccepted input held;
+}
+row (Sim seed) = record {
+  most_input = None;
+  asks_devices = false;
+  runs_gate = true;
+  IsDone = λ input held closed text. IsSim seed closed text;
+  IsRefused = λ input held text. ⊥;
+  Accepts = λ input held. ⊤;
 }
 row (Alone Lint) = record {
   most_input = Some 1048576;

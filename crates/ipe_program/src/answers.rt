@@ -11,7 +11,7 @@ use ipe_tasks::{Task, Told, TreeError, linted, measured, tree_told};
 use ipe_words::Status;
 use std::alloc::{AllocError, Global};
 
-/// The whole text of an answer, the status that comes with it, and the gate of a replay that is done.
+/// The whole text of an answer, the status that comes with it, and the gate of what ran and is done.
 #[derive(Drop)]
 pub(crate) struct Answer {
     pub(crate) text: Vec<u8>,
@@ -42,8 +42,8 @@ impl Answer {
         }
     }
 
-    /// The text is of a replay that ran on this gate.
-    pub(crate) fn replayed(text: Vec<u8>, gate: Closed) -> Self
+    /// The text is of what ran on this gate.
+    pub(crate) fn ran(text: Vec<u8>, gate: Closed) -> Self
         ensures { result ≡ record { text = text; status = Status.Done; closed = Some gate } }
     {
         let status = Status::Done;

@@ -2,6 +2,7 @@ ghost use Rattle.std.specs.Prelude.{◌≡◌, ◌≢◌, IfOk, IfSome, None, On
 ghost use Rattle.ipe_program.specs.Asked.{HasRule, asked_by};
 
 use ipe_tasks::{Task, TreePart, measure_by, tree_by};
+use line_words::decimal;
 use std::alloc::{AllocError, Global};
 
 /// What can be asked for.
@@ -9,6 +10,8 @@ use std::alloc::{AllocError, Global};
 pub enum Asked {
     /// The transcript of the request file that is read. Its lines run on threads.
     Replay,
+    /// What the roll-out of a seed comes to. It runs on threads.
+    Sim(u64),
     /// What the calling thread does alone.
     Alone(Task),
 }
@@ -22,6 +25,9 @@ pub(crate) fn asked_by(alloc: Global, words: &Vec<String>) -> Result<Option<Aske
     match words.as_slice() {
         [word] if word.as_str() == "replay" => Ok(Some(Asked::Replay)),
         [word] if word.as_str() == "lint" => Ok(Some(Asked::Alone(Task::Lint))),
+        [word, seed] if word.as_str() == "sim" => {
+            Ok(decimal(seed.as_bytes(), u64::MAX).map(Asked::Sim))
+        }
         [word, size, salt] if word.as_str() == "measure" => {
             Ok(measure_by(alloc, size, salt)?.map(Asked::Alone))
         }

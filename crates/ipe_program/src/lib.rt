@@ -5,7 +5,7 @@
 //!
 //! A replay runs on threads, in each phase the administrator and all workers beside each other. When its transcript is
 //! written whole, [`run`] and [`serve`] hand out the gate that it ran on, closed: that gate's one history stands for the
-//! order of what is written. All else that can be asked for is a [`Task`], done by the calling thread alone:
+//! order of what is written. So does a roll-out, of which one line tells what it came to. All else that can be asked for is a [`Task`], done by the calling thread alone:
 //! [`serve_alone`] serves one, and [`lint`], [`measure`] and [`root`] serve theirs without arguments. These start no thread
 //! and wait for none.
 #![tactic(auto)]

@@ -80,7 +80,7 @@ fn over_devices<R: Threads + Wait + Sync, D: Devices, P: Pace>(
     match load_images(alloc, requests, devices) {
         Ok(images) => {
             let (text, gate) = transcript(rt, alloc, requests, &images, pace)?;
-            Ok(Answer::replayed(text, gate))
+            Ok(Answer::ran(text, gate))
         }
         Err(error) => Ok(Answer::refused(refused_device(alloc, error)?)),
     }

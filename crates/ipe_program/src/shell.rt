@@ -5,20 +5,22 @@ ghost use Rattle.ipe_program.specs.Answers.{Ends, IsAbove, IsAnswered, IsInput, 
 ghost use Rattle.ipe_program.specs.Asked.{HasRule, asked_by};
 ghost use Rattle.ipe_tasks.specs.Asked.{HasTaskRule};
 ghost use Rattle.ipe_program.specs.Shell.{Runs, Serves, handed, no_gate, nothing};
+ghost use Rattle.ipe_program.specs.Sim.{IsSim};
 
 use crate::answers::{Answer, Unanswered, answer_to, most_input};
 use crate::asked::asked_by;
 use crate::replay::{MOST_REQUESTS, replayed};
 use crate::{Asked, Closed, Pace, Task, TreePart};
 use blk_device::{Devices, ImageDevices, NamedBytes};
+use ipe_roll_out::roll_out;
 use ipe_words::{MemorySource, ReadAllError, Sink, Source, Status, read_all, write_all};
 use std::alloc::{AllocError, Global};
 use std::sync::Wait;
 use std::thread::Threads;
 
 /// The program: what its arguments ask, from the source and the devices to the sink. Arguments that ask for nothing are
-/// wrong usage, and then nothing is read, written or handed out. A replay runs on threads, and its workers call `pace`
-/// round each of their lines; once its transcript is written whole, `closed` is the gate that it ran on.
+/// wrong usage, and then nothing is read, written or handed out. A replay or a roll-out runs on threads, and its workers
+/// call `pace` round each of their lines; once its answer is written whole, `closed` is the gate that it ran on.
 pub fn run<R: Threads + Wait + Sync, S: Source, K: Sink, D: Devices, P: Pace>(
     rt: &R,
     alloc: Global,
@@ -96,7 +98,7 @@ pub fn root<K: Sink, D: Devices>(
 }
 
 /// Serves what is asked: reads the source to its end, where its bytes are wanted, makes the whole answer of these and the
-/// devices, and writes it. Once the transcript of a replay is written whole, `closed` is the gate that it ran on.
+/// devices, and writes it. Once the answer of a replay or a roll-out is written whole, `closed` is the gate that it ran on.
 pub fn serve<R: Threads + Wait + Sync, S: Source, K: Sink, D: Devices, P: Pace>(
     rt: &R,
     alloc: Global,
@@ -147,6 +149,7 @@ fn answer<R: Threads + Wait + Sync, S: Source, D: Devices, P: Pace>(
 {
     match asked {
         Asked::Replay => answer_replay(rt, alloc, source, devices, pace),
+        Asked::Sim(seed) => answer_sim(rt, alloc, *seed, pace),
         Asked::Alone(task) => answer_alone(alloc, task, source, devices),
     }
 }
@@ -166,6 +169,21 @@ fn answer_replay<R: Threads + Wait + Sync, S: Source, D: Devices, P: Pace>(
         Some(input) => replayed(rt, alloc, &input, devices, pace),
         None => too_long(alloc),
     }
+}
+
+// The answer to a roll-out: nothing is read, and no device asked.
+fn answer_sim<R: Threads + Wait + Sync, P: Pace>(
+    rt: &R,
+    alloc: Global,
+    seed: u64,
+    pace: &P,
+) -> Result<Answer, Unanswered>
+    ensures answer { IfOk result (λ answer. IsSim seed answer.closed answer.text.items) }
+    ensures status { IfOk result (λ answer. answer.status ≡ Status.Done) }
+    ensures no_fault { (IsErrOf result Unanswered.ReadFault → ⊥) × (IsErrOf result Unanswered.DeviceFault → ⊥) }
+{
+    let (text, gate) = roll_out(rt, alloc, seed, pace)?;
+    Ok(Answer::ran(text, gate))
 }
 
 // The answer to a task. An input above the limit is refused before anything is asked of a device.

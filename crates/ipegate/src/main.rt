@@ -1,5 +1,5 @@
-//! `ipegate` replays a request file against the gate, and prints what the gate answers. It lints a policy too, and
-//! tells the root of a data image and the digest of a file.
+//! `ipegate` replays a request file against the gate, and prints what the gate answers. It runs a made-up roll-out from a
+//! seed, lints a policy, and tells the root of a data image and the digest of a file.
 //!
 //! [`run`] is the whole program. `main` hands it the arguments, the standard streams and the files of the system.
 #![tactic(auto)]
@@ -52,6 +52,8 @@ mod measure_tests;
 mod replay_tests;
 #[cfg(test)]
 mod root_tests;
+#[cfg(test)]
+mod sim_tests;
 #[cfg(test)]
 mod tests;
 #[cfg(test)]
