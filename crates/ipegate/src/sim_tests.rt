@@ -66,7 +66,7 @@ fn words_that_are_no_seed_are_refused(rt: HostRuntime) -> Result<(), Fail> {
     ] {
         let (status, text) = answered(&rt, alloc, &["sim", word], b"")?;
         assert_eq!(rt; status, 2, "{word}");
-        assert_eq!(rt; text.as_slice(), b"", "{word}");
+        assert!(rt; text.is_empty(), "{word}");
     }
     for words in [&["sim"][..], &["sim", "1", "2"][..], &["Sim", "1"][..]] {
         let (status, _) = answered(&rt, alloc, words, b"")?;
@@ -76,6 +76,7 @@ fn words_that_are_no_seed_are_refused(rt: HostRuntime) -> Result<(), Fail> {
 }
 
 /// How many hook lines were begun and ended, each with a pass of its own.
+#[derive(Drop)]
 struct Calls {
     begun: AtomicU64,
     ended: AtomicU64,
