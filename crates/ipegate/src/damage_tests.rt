@@ -1,8 +1,7 @@
 use super::device_tests::{REVOKED_ROOT, device};
 use super::replay_tests::{FIRST_CHECK, FIRST_CHECK_ANSWER};
-use super::tests::{answered, owned};
+use super::tests::{answered, served};
 use blk_device::{ImageDevices, MemoryDevices, NamedBytes};
-use ipe_program::{NoPace, run};
 use ipe_words::{MemorySink, MemorySource};
 use std::alloc::{AllocError, Global};
 use std::sync::Wait;
@@ -17,22 +16,12 @@ fn replayed_in_pieces<R: Threads + Wait + Sync>(
     failing_reads: &[u32],
     failing_writes: &[u32],
 ) -> Result<(u8, Vec<u8>), AllocError> {
-    let words = owned(alloc, &["replay"])?;
     let mut source = MemorySource::new(input.to_vec(alloc)?, 16, failing_reads.to_vec(alloc)?);
     let mut sink = MemorySink::new(alloc, 16, 4096, failing_writes.to_vec(alloc)?)?;
     let items = NamedBytes::from_vec(Vec::new(alloc));
     let mut devices = ImageDevices::new(&items);
-    let status = run(
-        rt,
-        alloc,
-        &words,
-        &mut source,
-        &mut sink,
-        &mut devices,
-        &NoPace,
-        &mut None,
-    );
-    Ok((status.number(), sink.written().to_vec(alloc)?))
+    let status = served(rt, alloc, &["replay"], &mut source, &mut sink, &mut devices)?;
+    Ok((status, sink.written().to_vec(alloc)?))
 }
 
 /// How many calls it takes to hand on so many bytes.
@@ -85,23 +74,13 @@ fn replayed_with_failing_device<R: Threads + Wait + Sync>(
     alloc: Global,
     call: u32,
 ) -> Result<(u8, Vec<u8>), AllocError> {
-    let words = owned(alloc, &["replay"])?;
     let input = REVOKED_ROOT.as_bytes().to_vec(alloc)?;
     let mut source = MemorySource::new(input, 4096, Vec::new(alloc));
     let mut sink = MemorySink::new(alloc, 4096, 65_536, Vec::new(alloc))?;
     let items = device(alloc, vec![in alloc; 0; 512]?)?;
     let mut devices = MemoryDevices::new(items, [call].to_vec(alloc)?);
-    let status = run(
-        rt,
-        alloc,
-        &words,
-        &mut source,
-        &mut sink,
-        &mut devices,
-        &NoPace,
-        &mut None,
-    );
-    Ok((status.number(), sink.written().to_vec(alloc)?))
+    let status = served(rt, alloc, &["replay"], &mut source, &mut sink, &mut devices)?;
+    Ok((status, sink.written().to_vec(alloc)?))
 }
 
 /// The device is asked for its size, and then for its bytes until all are there.
@@ -187,21 +166,11 @@ fn content<R: Threads + Wait + Sync>(
     input: &str,
     image: Vec<u8>,
 ) -> Result<Option<String>, AllocError> {
-    let words = owned(alloc, &["replay"])?;
     let mut source = MemorySource::new(input.as_bytes().to_vec(alloc)?, 4096, Vec::new(alloc));
     let mut sink = MemorySink::new(alloc, 4096, 4096, Vec::new(alloc))?;
     let items = device(alloc, image)?;
     let mut devices = ImageDevices::new(&items);
-    let _ = run(
-        rt,
-        alloc,
-        &words,
-        &mut source,
-        &mut sink,
-        &mut devices,
-        &NoPace,
-        &mut None,
-    );
+    served(rt, alloc, &["replay"], &mut source, &mut sink, &mut devices)?;
     let text = String::from_utf8(sink.written().to_vec(alloc)?).unwrap_or(String::new(alloc));
     match text.lines().find(|line| line.starts_with("content ")) {
         Some(line) => Ok(Some(String::from_str(alloc, line)?)),
@@ -314,22 +283,19 @@ fn no_epoch_comes_after_the_last(rt: HostRuntime) -> Result<(), Fail> {
     input.push_str(
         "admin write policies/a/active echo 1\nadmin write policies/a/update text a\nend\n",
     )?;
-    let words = owned(alloc, &["replay"])?;
     let mut source = MemorySource::new(input.into_bytes(), 65_536, Vec::new(alloc));
     let mut sink = MemorySink::new(alloc, 65_536, 16_777_216, Vec::new(alloc))?;
     let items = NamedBytes::from_vec(Vec::new(alloc));
     let mut devices = ImageDevices::new(&items);
-    let status = run(
+    let status = served(
         &rt,
         alloc,
-        &words,
+        &["replay"],
         &mut source,
         &mut sink,
         &mut devices,
-        &NoPace,
-        &mut None,
-    );
-    assert_eq!(rt; status.number(), 0);
+    )?;
+    assert_eq!(rt; status, 0);
     let text = String::from_utf8(sink.written().to_vec(alloc)?).unwrap_or(String::new(alloc));
     let mut line: u32 = 9;
     let mut epoch: u32 = 1;

@@ -1,6 +1,5 @@
-use super::tests::owned;
+use super::tests::served;
 use blk_device::{ImageDevices, MemoryDevices, NamedBytes};
-use ipe_program::{NoPace, run};
 use ipe_words::{Bytes, MemorySink, MemorySource};
 use std::alloc::{AllocError, Global};
 use std::sync::Wait;
@@ -120,21 +119,11 @@ fn replayed<R: Threads + Wait + Sync>(
     input: &str,
     items: &NamedBytes,
 ) -> Result<(u8, Vec<u8>), AllocError> {
-    let words = owned(alloc, &["replay"])?;
     let mut source = MemorySource::new(input.as_bytes().to_vec(alloc)?, 100, Vec::new(alloc));
     let mut sink = MemorySink::new(alloc, 100, 65_536, Vec::new(alloc))?;
     let mut devices = ImageDevices::new(items);
-    let status = run(
-        rt,
-        alloc,
-        &words,
-        &mut source,
-        &mut sink,
-        &mut devices,
-        &NoPace,
-        &mut None,
-    );
-    Ok((status.number(), sink.written().to_vec(alloc)?))
+    let status = served(rt, alloc, &["replay"], &mut source, &mut sink, &mut devices)?;
+    Ok((status, sink.written().to_vec(alloc)?))
 }
 
 #[test]
@@ -192,7 +181,6 @@ fn contains(bytes: &[u8], part: &[u8]) -> bool {
 #[test]
 fn a_device_that_fails_is_told(rt: HostRuntime) -> Result<(), Fail> {
     let alloc = rt.alloc();
-    let words = owned(alloc, &["replay"])?;
     let input = REVOKED_ROOT.as_bytes().to_vec(alloc)?;
     let mut source = MemorySource::new(input, 100, Vec::new(alloc));
     let mut sink = MemorySink::new(alloc, 100, 65_536, Vec::new(alloc))?;
@@ -200,17 +188,15 @@ fn a_device_that_fails_is_told(rt: HostRuntime) -> Result<(), Fail> {
         device(alloc, vec![in alloc; 0; 512]?)?,
         [1].to_vec(alloc)?,
     );
-    let status = run(
+    let status = served(
         &rt,
         alloc,
-        &words,
+        &["replay"],
         &mut source,
         &mut sink,
         &mut devices,
-        &NoPace,
-        &mut None,
-    );
-    assert_eq!(rt; status.number(), 6);
+    )?;
+    assert_eq!(rt; status, 6);
     assert_eq!(rt; sink.written().len(), 0);
     Ok(())
 }

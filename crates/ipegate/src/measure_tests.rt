@@ -1,6 +1,5 @@
-use super::tests::{answered, owned};
+use super::tests::{answered, served};
 use blk_device::{ImageDevices, NamedBytes};
-use ipe_program::{NoPace, run};
 use ipe_words::{MemorySink, MemorySource};
 use std::alloc::{AllocError, Global};
 use std::sync::Wait;
@@ -17,22 +16,19 @@ fn measured<R: Threads + Wait + Sync>(
     failing_writes: &[u32],
 ) -> Result<(u8, Vec<u8>), AllocError> {
     let [block_size, salt] = block_size_and_salt;
-    let words = owned(alloc, &["measure", block_size, salt])?;
     let mut source = MemorySource::new(input, 1 << 20, failing_reads.to_vec(alloc)?);
     let mut sink = MemorySink::new(alloc, 16, 4096, failing_writes.to_vec(alloc)?)?;
     let items = NamedBytes::from_vec(Vec::new(alloc));
     let mut devices = ImageDevices::new(&items);
-    let status = run(
+    let status = served(
         rt,
         alloc,
-        &words,
+        &["measure", block_size, salt],
         &mut source,
         &mut sink,
         &mut devices,
-        &NoPace,
-        &mut None,
-    );
-    Ok((status.number(), sink.written().to_vec(alloc)?))
+    )?;
+    Ok((status, sink.written().to_vec(alloc)?))
 }
 
 /// 40 blocks of 1,024 bytes, each filled with its number from 0.

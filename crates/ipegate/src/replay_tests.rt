@@ -1,6 +1,6 @@
-use super::tests::{answered, owned};
+use super::tests::{answered, called, served};
 use blk_device::{ImageDevices, NamedBytes};
-use ipe_program::{Closed, NoPace, run};
+use ipe_program::{Closed, NoPace};
 use ipe_words::{MemorySink, MemorySource};
 use std::alloc::{AllocError, Global};
 use std::sync::Wait;
@@ -106,23 +106,12 @@ fn replayed<R: Threads + Wait + Sync>(
     failing_reads: &[u32],
     failing_writes: &[u32],
 ) -> Result<(u8, Vec<u8>), AllocError> {
-    let mut words = Vec::new(alloc);
-    words.push(String::from_str(alloc, "replay")?)?;
     let mut source = MemorySource::new(input.to_vec(alloc)?, 100, failing_reads.to_vec(alloc)?);
     let mut sink = MemorySink::new(alloc, 16, 4096, failing_writes.to_vec(alloc)?)?;
     let items = NamedBytes::from_vec(Vec::new(alloc));
     let mut devices = ImageDevices::new(&items);
-    let status = run(
-        rt,
-        alloc,
-        &words,
-        &mut source,
-        &mut sink,
-        &mut devices,
-        &NoPace,
-        &mut None,
-    );
-    Ok((status.number(), sink.written().to_vec(alloc)?))
+    let status = served(rt, alloc, &["replay"], &mut source, &mut sink, &mut devices)?;
+    Ok((status, sink.written().to_vec(alloc)?))
 }
 
 #[test]
@@ -151,24 +140,20 @@ fn inputs_have_their_answers(rt: HostRuntime) -> Result<(), Fail> {
 #[test]
 fn an_input_above_the_limit_is_too_long(rt: HostRuntime) -> Result<(), Fail> {
     let alloc = rt.alloc();
-    let mut words = Vec::new(alloc);
-    words.push(String::from_str(alloc, "replay")?)?;
     let input = vec![in alloc; b'\n'; 16_777_217]?;
     let mut source = MemorySource::new(input, 1 << 20, Vec::new(alloc));
     let mut sink = MemorySink::new(alloc, 4096, 4096, Vec::new(alloc))?;
     let items = NamedBytes::from_vec(Vec::new(alloc));
     let mut devices = ImageDevices::new(&items);
-    let status = run(
+    let status = served(
         &rt,
         alloc,
-        &words,
+        &["replay"],
         &mut source,
         &mut sink,
         &mut devices,
-        &NoPace,
-        &mut None,
-    );
-    assert_eq!(rt; status.number(), 3);
+    )?;
+    assert_eq!(rt; status, 3);
     assert_eq!(rt; sink.written(), b"refused: too long\n".as_slice());
     Ok(())
 }
@@ -195,22 +180,21 @@ fn gate_after<R: Threads + Wait + Sync>(
     input: &str,
     failing_writes: &[u32],
 ) -> Result<Option<Closed>, AllocError> {
-    let words = owned(alloc, &["replay"])?;
     let mut source = MemorySource::new(input.as_bytes().to_vec(alloc)?, 100, Vec::new(alloc));
     let mut sink = MemorySink::new(alloc, 16, 4096, failing_writes.to_vec(alloc)?)?;
     let items = NamedBytes::from_vec(Vec::new(alloc));
     let mut devices = ImageDevices::new(&items);
     let mut closed = None;
-    let _ = run(
+    called(
         rt,
         alloc,
-        &words,
+        &["replay"],
         &mut source,
         &mut sink,
         &mut devices,
         &NoPace,
         &mut closed,
-    );
+    )?;
     Ok(closed)
 }
 

@@ -1,6 +1,5 @@
-use super::tests::{answered, owned};
+use super::tests::{answered, served};
 use blk_device::{MemoryDevices, NamedBytes};
-use ipe_program::{NoPace, run};
 use ipe_words::{Bytes, MemorySink, MemorySource};
 use std::alloc::{AllocError, Global};
 use std::sync::Wait;
@@ -21,7 +20,6 @@ fn rooted<R: Threads + Wait + Sync>(
     failing_writes: &[u32],
 ) -> Result<(u8, Vec<u8>), AllocError> {
     let [block_size, salt] = block_size_and_salt;
-    let words = owned(alloc, &["root", block_size, salt, "z.img"])?;
     let name = Bytes::from_vec(b"z.img".to_vec(alloc)?);
     let mut items = Vec::new(alloc);
     items.push((name, Bytes::from_vec(image)))?;
@@ -29,17 +27,15 @@ fn rooted<R: Threads + Wait + Sync>(
     let mut devices = MemoryDevices::new(items, failing_calls.to_vec(alloc)?);
     let mut source = MemorySource::new(Vec::new(alloc), 1, Vec::new(alloc));
     let mut sink = MemorySink::new(alloc, 16, 4096, failing_writes.to_vec(alloc)?)?;
-    let status = run(
+    let status = served(
         rt,
         alloc,
-        &words,
+        &["root", block_size, salt, "z.img"],
         &mut source,
         &mut sink,
         &mut devices,
-        &NoPace,
-        &mut None,
-    );
-    Ok((status.number(), sink.written().to_vec(alloc)?))
+    )?;
+    Ok((status, sink.written().to_vec(alloc)?))
 }
 
 // The roots come from Python's hashlib.

@@ -1,6 +1,6 @@
-use super::tests::{answered, owned};
+use super::tests::{answered, called};
 use blk_device::{ImageDevices, NamedBytes};
-use ipe_program::{Closed, Pace, Pass, run};
+use ipe_program::{Closed, Pace, Pass};
 use ipe_words::{MemorySink, MemorySource};
 use std::alloc::{AllocError, Global};
 use std::sync::Wait;
@@ -103,22 +103,21 @@ fn rolled_out<R: Threads + Wait + Sync, P: Pace>(
     pace: &P,
     closed: &mut Option<Closed>,
 ) -> Result<u8, AllocError> {
-    let words = owned(alloc, &["sim", "1"])?;
     let mut source = MemorySource::new(Vec::new(alloc), 1, Vec::new(alloc));
     let mut sink = MemorySink::new(alloc, 4096, 4096, Vec::new(alloc))?;
     let items = NamedBytes::from_vec(Vec::new(alloc));
     let mut devices = ImageDevices::new(&items);
-    let status = run(
+    let status = called(
         rt,
         alloc,
-        &words,
+        &["sim", "1"],
         &mut source,
         &mut sink,
         &mut devices,
         pace,
         closed,
-    );
-    Ok(status.number())
+    )?;
+    Ok(status)
 }
 
 #[test]

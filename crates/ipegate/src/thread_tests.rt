@@ -1,7 +1,7 @@
 use super::device_tests::device;
-use super::tests::owned;
+use super::tests::called;
 use blk_device::{ImageDevices, NamedBytes};
-use ipe_program::{NoPace, Pace, Pass, run};
+use ipe_program::{NoPace, Pace, Pass};
 use ipe_words::{MemorySink, MemorySource};
 use std::alloc::{AllocError, Global};
 use std::sync::Wait;
@@ -84,7 +84,6 @@ fn replayed<R: Threads + Wait + Sync, P: Pace>(
     phase: &str,
     pace: &P,
 ) -> Result<(u8, String), AllocError> {
-    let words = owned(alloc, &["replay"])?;
     let mut input = DECLARED.as_bytes().to_vec(alloc)?;
     input.extend_from_slice(phase.as_bytes())?;
     let mut source = MemorySource::new(input, 4096, Vec::new(alloc));
@@ -92,18 +91,18 @@ fn replayed<R: Threads + Wait + Sync, P: Pace>(
     let items = device(alloc, vec![in alloc; 0; 512]?)?;
     let mut devices = ImageDevices::new(&items);
     let mut closed = None;
-    let status = run(
+    let status = called(
         rt,
         alloc,
-        &words,
+        &["replay"],
         &mut source,
         &mut sink,
         &mut devices,
         pace,
         &mut closed,
-    );
+    )?;
     let text = String::from_utf8(sink.written().to_vec(alloc)?).unwrap_or(String::new(alloc));
-    Ok((status.number(), text))
+    Ok((status, text))
 }
 
 /// What a hook line of the phase is answered in an epoch, by its place among them: three of each worker.
